@@ -1,0 +1,11 @@
+pub mod Sizes
+pub mod Refusals
+pub mod Row
+pub mod Records
+pub mod Reading
+pub mod Length
+pub mod Changes
+pub mod Steps
+pub mod Bench
+pub mod Calls
+pub mod Worked
