@@ -1,5 +1,5 @@
 -- The rows worked by hand (document 01, "Rows worked by hand"), as bytes, in one table under a single claim: what the calls' definitions
--- answer and write for them. Two rows of our own stand beside them, for slips that the document's rows let pass.
+-- answer and write for them. Four rows of our own stand beside them, for slips that the document's rows let pass.
 use Prim.Native.Nat.{ℕ, zero, suc, _+_, _*_, _^_}
 use mathlib.Core.Path.{_≡_, refl}
 use mathlib.Core.List.{List, [], _∷_, _++_}
@@ -216,6 +216,40 @@ end-at-right =
     ∷ 0x45 ∷ 0x4e
     ∷ []
 
+-- W = 10, widths 4, 4; A+0 : 9: A stands at its limit 6, and its end 10 exceeds B's limit 6
+limit-joins : List ℕ
+limit-joins =
+    0x52 ∷ 0x57 ∷ 10 ∷ 0 ∷ 0 ∷ 0 ∷ 2 ∷ 0 ∷ 1 ∷ 0
+    ∷ 0x43 ∷ 0x45 ∷ 4 ∷ 0 ∷ 0 ∷ 0
+    ∷ 0x43 ∷ 0x45 ∷ 4 ∷ 0 ∷ 0 ∷ 0
+    ∷ 0x4e ∷ 0x54 ∷ 1 ∷ 0 ∷ 0 ∷ 0
+    ∷ 0x4d ∷ 0x50 ∷ 0 ∷ 0 ∷ 0 ∷ 0 ∷ 0 ∷ 0
+    ∷ 0x46 ∷ 0x50 ∷ 9 ∷ 0 ∷ 0 ∷ 0
+    ∷ 0x45 ∷ 0x4e
+    ∷ []
+
+-- W = 20, widths 2, 2, 2; A+0 : 2 and B+0 : 10, weight 5; C+0 : 1 twice: C joins B, and the two stay apart from A; B holds fewer changes than C
+joins-once : List ℕ
+joins-once =
+    0x52 ∷ 0x57 ∷ 20 ∷ 0 ∷ 0 ∷ 0 ∷ 3 ∷ 0 ∷ 4 ∷ 0
+    ∷ 0x43 ∷ 0x45 ∷ 2 ∷ 0 ∷ 0 ∷ 0
+    ∷ 0x43 ∷ 0x45 ∷ 2 ∷ 0 ∷ 0 ∷ 0
+    ∷ 0x43 ∷ 0x45 ∷ 2 ∷ 0 ∷ 0 ∷ 0
+    ∷ 0x4e ∷ 0x54 ∷ 5 ∷ 0 ∷ 0 ∷ 0
+    ∷ 0x4d ∷ 0x50 ∷ 0 ∷ 0 ∷ 0 ∷ 0 ∷ 0 ∷ 0
+    ∷ 0x46 ∷ 0x50 ∷ 2 ∷ 0 ∷ 0 ∷ 0
+    ∷ 0x4e ∷ 0x54 ∷ 5 ∷ 0 ∷ 0 ∷ 0
+    ∷ 0x4d ∷ 0x50 ∷ 1 ∷ 0 ∷ 0 ∷ 0 ∷ 0 ∷ 0
+    ∷ 0x46 ∷ 0x50 ∷ 10 ∷ 0 ∷ 0 ∷ 0
+    ∷ 0x4e ∷ 0x54 ∷ 1 ∷ 0 ∷ 0 ∷ 0
+    ∷ 0x4d ∷ 0x50 ∷ 2 ∷ 0 ∷ 0 ∷ 0 ∷ 0 ∷ 0
+    ∷ 0x46 ∷ 0x50 ∷ 1 ∷ 0 ∷ 0 ∷ 0
+    ∷ 0x4e ∷ 0x54 ∷ 1 ∷ 0 ∷ 0 ∷ 0
+    ∷ 0x4d ∷ 0x50 ∷ 2 ∷ 0 ∷ 0 ∷ 0 ∷ 0 ∷ 0
+    ∷ 0x46 ∷ 0x50 ∷ 1 ∷ 0 ∷ 0 ∷ 0
+    ∷ 0x45 ∷ 0x4e
+    ∷ []
+
 pub table : List Worked
 table =
     record { row = row1; facts = stands [] 0 ∷ takes-steps 0 ∷ [] }
@@ -240,12 +274,14 @@ table =
           ∷ [];
     }
     ∷ record { row = right-limit; facts = stands (7 ∷ []) 2 ∷ [] }
+    ∷ record { row = limit-joins; facts = stands (2 ∷ 6 ∷ []) 7 ∷ takes-steps 5 ∷ carries 0 ∷ [] }
+    ∷ record { row = joins-once; facts = stands (2 ∷ 10 ∷ 12 ∷ []) 22 ∷ takes-steps 7 ∷ carries 2 ∷ [] }
     ∷ record { row = end-at-right; facts = stands (3 ∷ 5 ∷ []) 0 ∷ takes-steps 4 ∷ [] }
     ∷ []
 
 pub worked : allWorked table ≡ true
 unfolding
-    same benchAfter enough holds allHold allWorked table row1 row2 row2-full row3 row4 row4-weighed row5 row6 row7 row8 right-limit end-at-right
+    same benchAfter enough holds allHold allWorked table row1 row2 row2-full row3 row4 row4-weighed row5 row6 row7 row8 right-limit end-at-right limit-joins joins-once
     names replaced counted markOf inNets allowed hasPin lonely fields marked recordAt start withPin after total ended readUpTo readFrom readRow
     overlapFrom overlap leftmost rightmost extent span lengthOf netlength
     fixedOf cellsOf offsetsOn least greatest leftCell rightCell leftOffset rightOffset leftFixed rightFixed leftChange rightChange changesOn

@@ -1,0 +1,49 @@
+// The calls that the broker makes, exported for C. Each promises, for every input, its one u64 and every byte of the buffer that it was lent,
+// by the definitions of the crate `rules` (specs/Calls.antt). No call has a `requires`: no caller is trusted.
+
+ghost use mathlib.Core.Path.{_≡_};
+ghost use Prim.Native.Nat.{_≤_};
+ghost use Rattle.rules.specs.Refusals.{refusal, number};
+ghost use Rattle.rules.specs.Calls.{freshCall};
+use rules::BENCH_SIZE;
+use rules::Refusal;
+
+// The number of a refusal in document 01's table.
+fn number_of(q: Refusal) -> u64
+    ensures { λ r. ⌜ (r ≡ number q) × (r ≤ 10) ⌝ }
+{
+    match q {
+        Refusal::Cut => 1,
+        Refusal::WrongMark => 2,
+        Refusal::Tail => 3,
+        Refusal::Range => 4,
+        Refusal::Lonely => 5,
+        Refusal::Full => 6,
+        Refusal::Room => 7,
+        Refusal::WrongBench => 8,
+        Refusal::Unfinished => 9,
+        Refusal::Overlap => 10,
+    }
+}
+
+// A refusal and its place as one u64: the only place where that number is made.
+fn refused(q: Refusal, place: u32) -> u64
+    ensures { λ r. ⌜ r ≡ refusal q place ⌝ }
+{
+    9223372036854775808 + number_of(q) * 4294967296 + (place as u64)
+}
+
+// Makes the lent bench a fresh one.
+#[no_mangle]
+pub extern "C" fn lugsheet_fresh(bench: &mut [u8]) -> u64
+    ensures answer { λ r. ⌜ r ≡ freshCall (now (bench .entry)) .answer ⌝ }
+    ensures buffer { λ _. ⌜ now (bench .exit) ≡ freshCall (now (bench .entry)) .buffer ⌝ }
+{
+    if bench.len() != BENCH_SIZE {
+        return refused(Refusal::Room, 0);
+    }
+    numbers::clear(bench);
+    bench[0] = 66;
+    bench[1] = 78;
+    0
+}

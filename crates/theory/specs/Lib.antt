@@ -1,0 +1,16 @@
+pub mod Order
+pub mod Sum
+pub mod Pulls
+pub mod Placement
+pub mod Certificate
+pub mod Blocks
+pub mod Lattice
+pub mod Leftmost
+pub mod Moves
+pub mod Interval
+pub mod Clumps
+pub mod Walls
+pub mod Row
+pub mod Run
+pub mod Wider
+pub mod Counts
