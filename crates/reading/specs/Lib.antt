@@ -1,0 +1,9 @@
+pub mod ReadingLaws
+pub mod Sound
+pub mod SoundLaws
+pub mod Reads
+pub mod Underway
+pub mod Cells
+pub mod Nets
+pub mod Ending
+pub mod ReadsLaws
