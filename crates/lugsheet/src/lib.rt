@@ -4,7 +4,8 @@
 ghost use mathlib.Core.Path.{_≡_};
 ghost use Prim.Native.Nat.{_≤_};
 ghost use Rattle.rules.specs.Refusals.{refusal, number};
-ghost use Rattle.rules.specs.Calls.{freshCall};
+ghost use Rattle.rules.specs.Calls.{checkCall, freshCall, measureCall};
+use reading::Verdict;
 use rules::BENCH_SIZE;
 use rules::Refusal;
 
@@ -31,6 +32,41 @@ fn refused(q: Refusal, place: u32) -> u64
     ensures { λ r. ⌜ r ≡ refusal q place ⌝ }
 {
     9223372036854775808 + number_of(q) * 4294967296 + (place as u64)
+}
+
+// The number of cells of a row.
+#[no_mangle]
+pub extern "C" fn lugsheet_check(row: &[u8]) -> u64
+    ensures answer { λ r. ⌜ r ≡ checkCall (now (row .entry)) .answer ⌝ }
+{
+    let h = reading::read_row(row);
+    let v = h.verdict;
+    if let Verdict::Refused(q) = v {
+        return refused(q, h.place);
+    }
+    h.cells as u64
+}
+
+// The netlength of a placement of a row.
+#[no_mangle]
+pub extern "C" fn lugsheet_measure(row: &[u8], placement: &[u8]) -> u64
+    ensures answer { λ r. ⌜ r ≡ measureCall (now (row .entry)) (now (placement .entry)) .answer ⌝ }
+{
+    let h = reading::read_row(row);
+    let v = h.verdict;
+    if let Verdict::Refused(q) = v {
+        return refused(q, h.place);
+    }
+    let cells = h.cells;
+    if placement.len() != 4 * cells {
+        return refused(Refusal::Room, 0);
+    }
+    let i = measuring::first_overlap(&h.widths, cells, h.width, placement);
+    if i < cells {
+        return refused(Refusal::Overlap, i as u32);
+    }
+    let net = h.net;
+    measuring::netlength(net, h.nets, placement)
 }
 
 // Makes the lent bench a fresh one.

@@ -1,0 +1,13 @@
+pub mod Fits
+pub mod Saved
+pub mod BothLaws
+pub mod ZeroLaws
+pub mod MadeLaws
+pub mod ApartLaws
+pub mod FormLaws
+pub mod FitsLaws
+pub mod PassedLaws
+pub mod LoadLaws
+pub mod StoreLaws
+pub mod BackLaws
+pub mod AgainLaws

@@ -1,0 +1,60 @@
+-- Laws of the calls' definitions, way by way: what each answers where the row is refused, a buffer has another length, or all is well.
+use Prim.Native.Nat.{ℕ, _*_}
+use mathlib.Core.Path.{_≡_, refl, ap, sym, _∙_}
+use mathlib.Core.Bool.{Bool, true, false, cond}
+use mathlib.Core.List.{List, []}
+use lib.ListN.{length}
+use lib.Dec.{eqb}
+use borrow.Author.Tests.{eq-eqb, ne-eqb}
+use Rattle.rules.specs.Refusals.{refusal}
+use Rattle.rules.specs.Row.{Row}
+use Rattle.rules.specs.Reading.{Read, taken, refused, readRow}
+use Rattle.rules.specs.Length.{overlap, netlength}
+use Rattle.rules.specs.Calls.{Outcome, withRow, refuse, given, checkCall, measureCall, measured, sitesFrom}
+use Rattle.rules.specs.declared.Refusal.{Refusal}
+use Rattle.rules.specs.declared.Refusal.the-variants.{Room, Overlap}
+
+-- ---- check
+
+pub check-refused : (row : List ℕ) (q : Refusal) (place : ℕ) → readRow row ≡ refused q place → checkCall row .answer ≡ refusal q place
+unfolding checkCall
+check-refused row q place e = rw e refl
+
+pub check-taken : (row : List ℕ) (R : Row) → readRow row ≡ taken R → checkCall row .answer ≡ length (R .widths)
+unfolding checkCall
+check-taken row R e = rw e refl
+
+-- ---- measure
+
+pub measure-refused : (row placement : List ℕ) (q : Refusal) (place : ℕ) → readRow row ≡ refused q place
+    → measureCall row placement .answer ≡ refusal q place
+unfolding measureCall
+measure-refused row placement q place e = rw e refl
+
+module _ (row placement : List ℕ) (R : Row) (e : readRow row ≡ taken R) where
+  pub measure-room : (length placement ≡ 4 * length (R .widths) → ⊥) → measureCall row placement .answer ≡ refusal Room 0
+  unfolding measureCall
+  measure-room h = rw (e, ne-eqb (length placement) (4 * length (R .widths)) h) refl
+
+  module _ (h : length placement ≡ 4 * length (R .widths)) where
+    pub measure-overlap : (overlap R (sitesFrom placement 0 (length (R .widths))) ≡ length (R .widths) → ⊥)
+        → measureCall row placement .answer ≡ refusal Overlap (overlap R (sitesFrom placement 0 (length (R .widths))))
+    unfolding measureCall measured
+    measure-overlap n =
+        rw (
+          e,
+          eq-eqb (length placement) (4 * length (R .widths)) h,
+          ne-eqb (overlap R (sitesFrom placement 0 (length (R .widths)))) (length (R .widths)) n,
+        )
+        refl
+
+    pub measure-done : overlap R (sitesFrom placement 0 (length (R .widths))) ≡ length (R .widths)
+        → measureCall row placement .answer ≡ netlength R (sitesFrom placement 0 (length (R .widths)))
+    unfolding measureCall measured
+    measure-done n =
+        rw (
+          e,
+          eq-eqb (length placement) (4 * length (R .widths)) h,
+          eq-eqb (overlap R (sitesFrom placement 0 (length (R .widths)))) (length (R .widths)) n,
+        )
+        refl
