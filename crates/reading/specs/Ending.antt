@@ -1,17 +1,16 @@
 -- The end of a row: what EN and the bytes after it make of what was read (3, then 6, then taken), and that the code's struct then holds
 -- the row.
-use Prim.Native.Nat.{ℕ, zero, suc, _+_, _≤_, _<_}
-use mathlib.Core.Path.{_≡_, refl, sym, ap, _∙_}
+use Prim.Native.Nat.{ℕ, _+_, _≤_, _<_}
+use mathlib.Core.Path.{_≡_, refl, sym, _∙_}
 use mathlib.Core.List.{List, [], _∷_, _++_, reverse, reverse-cons}
 use mathlib.Core.Logic.{⊎-elim}
 use native.Mathlib.Omega.{arith}
 use native.Mathlib.Nat.{eq-or-lt-of-le}
 use lib.ListN.{length, getD, drop, length-reverse, List·getD-append}
-use lib.Seq.{getD-append-add}
 use borrow.Author.Tests.{ne-eqb, eq-eqb, le-leb, lt-leb}
 use Rattle.rules.specs.Row.{Net as Listed, Row}
 use Rattle.rules.specs.Records.{Reading, recordAt}
-use Rattle.rules.specs.Reading.{Read, taken, refused, total, ended, readFrom, readRow}
+use Rattle.rules.specs.Reading.{Read, taken, refused, total, ended, readRow}
 use Rattle.rules.specs.declared.Refusal.{Refusal}
 use Rattle.rules.specs.declared.Refusal.the-variants.{Tail, Full}
 use Rattle.rules.specs.declared.Record.the-variants.{En, Refused}
@@ -21,10 +20,9 @@ use Rattle.nets.specs.declared.Net.{Net}
 use Rattle.nets.specs.declared.Draft.{Draft}
 use Rattle.reading.specs.ReadingLaws.{read-refused, read-end}
 use Rattle.reading.specs.SoundLaws.{ended-sound}
-use Rattle.reading.specs.Reads.{blank, noNet, noNets, noWidths, refusedSheet, Holds, Empty, Reads}
+use Rattle.reading.specs.Reads.{blank, noNet, refusedSheet, Reads}
 use Rattle.reading.specs.Underway.{told}
 use Rattle.reading.specs.Nets.{Stored, InNets}
-use Rattle.reading.specs.declared.Sheet.{Sheet}
 use Rattle.reading.specs.declared.Verdict.the-variants.{Taken}
 
 -- ---- the last two checks

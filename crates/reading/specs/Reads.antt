@@ -12,7 +12,6 @@ use Rattle.nets.specs.Summary.{summary}
 use Rattle.nets.specs.declared.Net.{Net}
 use Rattle.reading.specs.Sound.{Sound}
 use Rattle.reading.specs.declared.Sheet.{Sheet}
-use Rattle.reading.specs.declared.Verdict.{Verdict}
 use Rattle.reading.specs.declared.Verdict.the-variants.{Taken, Refused}
 
 -- what stands where there is no cell and no net

@@ -118,17 +118,18 @@ fn read_cells(s: &[u8]) -> Cells
     let mut p = none.after(r);
     let mut t = records::rest(s, r);
     let mut sum: u32 = 0;
-    while p.filled < p.cells {
+    let mut k = 0;
+    while k < p.cells {
         let r = records::read_record(p, &widths, t);
         let Record::Ce(w) = r else {
             return Cells::refused(refusal_of(r), p);
         };
-        let k = p.filled;
         widths[k] = w;
         sum += w;
         p = p.after(r);
         let u = records::rest(t, r);
         t = u;
+        k += 1;
     }
     let bytes = s.len() - t.len();
     Cells {
@@ -182,7 +183,7 @@ fn read_nets(h: Cells, s: &[u8]) -> Sheet
         return Sheet::refused(refusal_of(r), p.place);
     };
     let u = records::rest(t, r);
-    if u.len() != 0 {
+    if u.len() > 0 {
         return Sheet::refused(Refusal::Tail, p.place + 1);
     }
     if h.sum > p.width {

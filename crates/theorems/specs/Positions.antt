@@ -32,22 +32,22 @@ packed-reach x (suc k) [] i h l = absurd (omega arith)
 packed-reach x (suc k) (w ∷ ws) zero h l = refl
 packed-reach x (suc k) (w ∷ ws) (suc i) h l = omega (arith, packed-reach (x + w) k ws i (omega arith) (omega arith))
 
-rest-drop : (a i : ℕ) (ws : List ℕ) → rest (drop a ws) i ≡ rest ws (a + i)
+pub rest-drop : (a i : ℕ) (ws : List ℕ) → rest (drop a ws) i ≡ rest ws (a + i)
 unfolding rest
 rest-drop a i ws = ap total (drop-drop i a ws)
 
 -- ---- one clump more at the right
 
-unfoldable cellsAll : List Clump → ℕ
+unfoldable pub cellsAll : List Clump → ℕ
 cellsAll [] = 0
 cellsAll (c ∷ cs) = c .cells + cellsAll cs
 
-cells-snoc : (cs : List Clump) (d : Clump) → cellsAll (cs ++ (d ∷ [])) ≡ cellsAll cs + d .cells
+pub cells-snoc : (cs : List Clump) (d : Clump) → cellsAll (cs ++ (d ∷ [])) ≡ cellsAll cs + d .cells
 unfolding cellsAll
 cells-snoc [] d = omega arith
 cells-snoc (c ∷ cs) d = omega (arith, cells-snoc cs d)
 
-positions-snoc : (ws : List ℕ) (cs : List Clump) (d : Clump)
+pub positions-snoc : (ws : List ℕ) (cs : List Clump) (d : Clump)
     → positionsIn ws (cs ++ (d ∷ [])) ≡ positionsIn ws cs ++ packed (d .edge) (d .cells) (drop (cellsAll cs) ws)
 unfolding positionsIn cellsAll
 positions-snoc ws [] d = append-nil (packed (d .edge) (d .cells) ws)

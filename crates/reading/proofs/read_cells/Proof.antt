@@ -1,9 +1,8 @@
 -- RW and the cells: the variables stand for a reading in the cells, and each CE carries it on. The measure is the widths still missing.
 use Prim.Native.Nat.{ℕ, _-_}
 use mathlib.Core.Path.{_≡_, refl, subst, _∙_, sym}
-use mathlib.Core.List.{List, [], _∷_}
 use native.Mathlib.Omega.{arith}
-use lib.ListN.{replicate, getD}
+use lib.ListN.{replicate}
 use borrow.Author.Needs.{needs}
 use types.Run.{OneOf, miss}
 use denote.Enum.Declared.{tagOf}
@@ -23,10 +22,10 @@ use Rattle.reading.proofs.read_cells.Statement.{statement}
 use Rattle.reading.proofs.read_cells.Tie as tie
 
 abbrev Inv-loop : tie.InvT-loop
-Inv-loop s widths₀ p₀ t₀ sum₀ widths p t sum = (c : Reading) × InCells s widths sum p t c
+Inv-loop s widths₀ p₀ t₀ sum₀ k₀ widths p t sum k = (c : Reading) × (InCells s widths sum p t c × (k ≡ p .filled))
 
 abbrev μ-loop : tie.MeasureT-loop
-μ-loop s widths₀ p₀ t₀ sum₀ widths p t sum = p .cells - p .filled
+μ-loop s widths₀ p₀ t₀ sum₀ k₀ widths p t sum k = p .cells - k
 
 -- no widths, and nothing read
 shown : (c : tie.After-start Inv-loop μ-loop) → Shows (c .start .result) (replicate mostCells 0) start
@@ -38,7 +37,7 @@ first c = sym (c .read-record .ensures start (shown (c .before .before)))
 
 seen : (c : tie.After-read-record2 Inv-loop μ-loop)
     → recordAt (c .before .before .before .before .loop .inv .0) (c .before .before .before .before .loop .t .now) ≡ c .read-record2 .result
-seen c = let l = c .before .before .before .before .loop in sym (c .read-record2 .ensures (l .inv .0) (l .inv .1 .underway .shows))
+seen c = let l = c .before .before .before .before .loop in sym (c .read-record2 .ensures (l .inv .0) (l .inv .1 .0 .underway .shows))
 
 turn : (c : tie.After-known-told Inv-loop μ-loop)
     → recordAt (c .before .before .before .before .before .before .before .loop .inv .0) (c .before .before .before .before .before .before .before .loop .t .now)
@@ -79,18 +78,21 @@ rest-requires c κs =
     record-fits start (read .before .before .before .before .args .s .now) (read .read-record .result) (first read)
 
 loop-holds : tie.Need-loop-holds Inv-loop μ-loop
+unfolding start
 loop-holds c =
     let read = c .before .before .before .before in
     let s = read .before .before .before .before .args .s .now in
     let k = c .before .before .enum-told .given in
     let is : recordAt start s ≡ Rw (k .0 .0) (k .0 .1 .0) (k .0 .1 .1 .0) = first read ∙ k .1 in (
       after start (Rw (k .0 .0) (k .0 .1 .0) (k .0 .1 .1 .0)),
-      rw (c .rest .ensures, c .before .after .ensures, k .1)
-          (first-cells s (replicate mostCells 0) (read .before .before .start .result) (k .0 .0) (k .0 .1 .0) (k .0 .1 .1 .0) (shown (read .before .before)) refl is),
+      rw (c .rest .ensures, c .before .after .ensures, k .1) (
+        first-cells s (replicate mostCells 0) (read .before .before .start .result) (k .0 .0) (k .0 .1 .0) (k .0 .1 .1 .0) (shown (read .before .before)) refl is,
+        sym (shown (read .before .before) .filled),
+      ),
     )
 
 read-record-requires-2 : tie.Need-read-record-requires-2 Inv-loop μ-loop
-read-record-requires-2 c κs = let l = c .before .before .before .loop in let u = l .inv .1 .underway in omega (arith, u .shows .cells, u .good .within .cells)
+read-record-requires-2 c κs = let l = c .before .before .before .loop in let u = l .inv .1 .0 .underway in omega (arith, u .shows .cells, u .good .within .cells)
 
 enum-known-r : tie.Need-enum-known-r Inv-loop μ-loop
 enum-known-r c = search needs
@@ -109,27 +111,30 @@ returns-2 c =
     let r = read .read-record2 .result in
     let other : (w : ℕ) → r ≡ Ce w → ⊥ = λ w e. miss notCell 1 tt (subst (λ (x : Record). OneOf notCell (tagOf the-type x)) e (c .before .before .match2 .keys2)) in
     cells-refused s (c .refused2 .result) (c .before .refusal-of2 .result) (l .p) (c .refused2 .ensures .0) (c .refused2 .ensures .1)
-    (rw (c .before .refusal-of2 .ensures) (cell-refused s (l .widths) (l .sum) (l .p) (l .t .now) (l .inv .0) (l .inv .1) r (seen read) (read .before .before .if1 .taken) other))
+    (rw (c .before .refusal-of2 .ensures) (cell-refused s (l .widths) (l .sum) (l .p) (l .t .now) (l .inv .0) (l .inv .1 .0) r (seen read) (omega (arith, l .inv .1 .1, read .before .before .if1 .taken)) other))
 
 mul-widths : tie.Need-mul-widths Inv-loop μ-loop
 mul-widths c = search needs
 
 array-write-widths : tie.Need-array-write-widths Inv-loop μ-loop
-array-write-widths c = let l = c .before .before .before .before .before .before .before .loop in let u = l .inv .1 .underway in omega (arith, u .shows .cells, u .good .within .cells)
+array-write-widths c = let l = c .before .before .before .before .before .before .before .loop in let u = l .inv .1 .0 .underway in omega (arith, u .shows .cells, u .good .within .cells)
 
 add-sum : tie.Need-add-sum Inv-loop μ-loop
 add-sum c =
     let l = c .before .before .before .before .before .before .before .loop in
     let most = told (l .inv .0) (l .t .now) (Ce (c .before .r .given .0 .0)) (turn c) .most in
-    omega (arith, sum-small _ (l .widths) (l .sum) (l .p) (l .t .now) (l .inv .0) (l .inv .1))
+    omega (arith, sum-small _ (l .widths) (l .sum) (l .p) (l .t .now) (l .inv .0) (l .inv .1 .0))
 
 after-requires-2 : tie.Need-after-requires-2 Inv-loop μ-loop
-after-requires-2 c κs = let l = c .before .before .before .before .before .before .before .loop in within-small (l .inv .1 .underway .shows) (l .inv .1 .underway .good .within)
+after-requires-2 c κs = let l = c .before .before .before .before .before .before .before .loop in within-small (l .inv .1 .0 .underway .shows) (l .inv .1 .0 .underway .good .within)
 
 rest-requires-2 : tie.Need-rest-requires-2 Inv-loop μ-loop
 rest-requires-2 c κs =
     let l = c .before .before .before .before .before .before .before .before .loop in
     record-fits (l .inv .0) (l .t .now) (Ce (c .before .before .r .given .0 .0)) (turn (c .before))
+
+add-k : tie.Need-add-k Inv-loop μ-loop
+add-k c = search needs
 
 loop-less : tie.Need-loop-less Inv-loop μ-loop
 loop-less c = rw (c .before .after2 .ensures) (omega arith)
@@ -140,14 +145,14 @@ loop-again c =
     let l = told .before .before .before .before .before .before .before .loop in
     let w = told .before .r .given .0 .0 in (
       after (l .inv .0) (Ce w),
-      rw (c .rest2 .ensures, c .before .after2 .ensures) (more-cells _ (l .widths) (l .sum) (l .p) (l .t .now) (l .inv .0) (l .inv .1) w (turn told)),
+      rw (c .rest2 .ensures, c .before .after2 .ensures, l .inv .1 .1) (more-cells _ (l .widths) (l .sum) (l .p) (l .t .now) (l .inv .0) (l .inv .1 .0) w (turn told), refl),
     )
 
 sub-bytes : tie.Need-sub-bytes Inv-loop μ-loop
-sub-bytes c = let l = c .before .before .loop in tail-within _ (l .widths) (l .sum) (l .p) (l .t .now) (l .inv .0) (l .inv .1)
+sub-bytes c = let l = c .before .before .loop in tail-within _ (l .widths) (l .sum) (l .p) (l .t .now) (l .inv .0) (l .inv .1 .0)
 
 returns-3 : tie.Need-returns-3 Inv-loop μ-loop
-returns-3 c = let l = c .before .before .loop in (l .inv .0, cells-through _ (l .widths) (l .sum) (l .p) (l .t .now) (l .inv .0) (l .inv .1) (c .if1 .left))
+returns-3 c = let l = c .before .before .loop in (l .inv .0, cells-through _ (l .widths) (l .sum) (l .p) (l .t .now) (l .inv .0) (l .inv .1 .0) (omega (arith, l .inv .1 .1, c .if1 .left)))
 
 pub read-cells-spec : {M : Type 1} → statement M
 read-cells-spec =
@@ -174,6 +179,7 @@ read-cells-spec =
     add-sum
     after-requires-2
     rest-requires-2
+    add-k
     loop-less
     loop-again
     sub-bytes

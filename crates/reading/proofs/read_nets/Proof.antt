@@ -1,7 +1,7 @@
 -- The nets: the variables stand for a reading in the nets, with the record that comes next in `r`; each record that goes on carries it on.
 -- The measure is the bytes that are left.
 use Prim.Native.Nat.{ℕ, _-_, _≤_}
-use mathlib.Core.Path.{_≡_, refl, subst, _∙_, sym}
+use mathlib.Core.Path.{_≡_, subst, _∙_, sym}
 use mathlib.Core.List.{List, [], _∷_}
 use mathlib.Core.Bool.{true, false}
 use native.Mathlib.Omega.{arith}
@@ -10,7 +10,7 @@ use borrow.Author.Needs.{needs}
 use types.Run.{OneOf, miss}
 use denote.Enum.Declared.{tagOf}
 use Rattle.rules.specs.Sizes.{mostNets}
-use Rattle.rules.specs.Records.{Reading, recordAt, takes}
+use Rattle.rules.specs.Records.{Reading, recordAt}
 use Rattle.rules.specs.Reading.{after}
 use Rattle.rules.specs.declared.Record.{Record}
 use Rattle.rules.specs.declared.Record.the-variants.{En}
@@ -163,7 +163,8 @@ returns-2 : tie.Need-returns-2 Inv-loop μ-loop
 returns-2 c =
     let l = c .before .before .before .before .before .before .before .before .loop in
     rw (c .refused2 .ensures)
-    (reads-tail _ _ _ (l .p) (l .t .now) (l .d) (l .net) (l .inv .0) (l .inv .1 .0) (at-end (c .before .before .before .before)) (λ e. c .before .before .if2 .taken (after-end (c .before .before .before) ∙ e)))
+    (reads-tail _ _ _ (l .p) (l .t .now) (l .d) (l .net) (l .inv .0) (l .inv .1 .0)
+    (at-end (c .before .before .before .before)) (λ e. omega (arith, after-end (c .before .before .before), c .before .before .if2 .taken)))
 
 refused-requires-3 : tie.Need-refused-requires-3 Inv-loop μ-loop
 refused-requires-3 c κs = search needs
@@ -172,12 +173,14 @@ returns-3 : tie.Need-returns-3 Inv-loop μ-loop
 returns-3 c =
     let l = c .before .before .before .before .before .before .before .before .before .loop in
     rw (c .refused3 .ensures)
-    (reads-full _ _ _ (l .p) (l .t .now) (l .d) (l .net) (l .inv .0) (l .inv .1 .0) (at-end (c .before .before .before .before .before)) (sym (after-end (c .before .before .before .before)) ∙ c .before .before .before .if2 .left) (c .before .if3 .taken))
+    (reads-full _ _ _ (l .p) (l .t .now) (l .d) (l .net) (l .inv .0) (l .inv .1 .0)
+    (at-end (c .before .before .before .before .before)) (omega (arith, after-end (c .before .before .before .before), c .before .before .before .if2 .left)) (c .before .if3 .taken))
 
 returns-4 : tie.Need-returns-4 Inv-loop μ-loop
 returns-4 c =
     let l = c .before .before .before .before .before .before .before .before .before .loop in
-    reads-taken _ _ _ (l .p) (l .t .now) (l .d) (l .net) (l .inv .0) (l .inv .1 .0) (at-end (c .before .before .before .before .before)) (sym (after-end (c .before .before .before .before)) ∙ c .before .before .before .if2 .left) (c .before .if3 .left)
+    reads-taken _ _ _ (l .p) (l .t .now) (l .d) (l .net) (l .inv .0) (l .inv .1 .0)
+    (at-end (c .before .before .before .before .before)) (omega (arith, after-end (c .before .before .before .before), c .before .before .before .if2 .left)) (c .before .if3 .left)
 
 pub read-nets-spec : {M : Type 1} → statement M
 read-nets-spec =
