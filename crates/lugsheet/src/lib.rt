@@ -4,6 +4,7 @@
 ghost use mathlib.Core.Path.{_≡_};
 ghost use Prim.Native.Nat.{_≤_};
 ghost use Rattle.rules.specs.Refusals.{refusal, number};
+ghost use Rattle.rules.specs.Steps.{carriedBound};
 ghost use Rattle.rules.specs.Calls.{checkCall, freshCall, measureCall};
 use reading::Verdict;
 use rules::BENCH_SIZE;
@@ -32,6 +33,14 @@ fn refused(q: Refusal, place: u32) -> u64
     ensures { λ r. ⌜ r ≡ refusal q place ⌝ }
 {
     9223372036854775808 + number_of(q) * 4294967296 + (place as u64)
+}
+
+// The bound on the changes that a run carries: 2m times the whole part of the logarithm of 2m, found from the bits of 2m.
+pub fn carried_bound(nets: u16) -> u64
+    ensures { λ r. ⌜ r ≡ carriedBound nets ⌝ }
+{
+    let changes = 2 * (nets as u32);
+    (changes as u64) * (numbers::whole_log(changes) as u64)
 }
 
 // The number of cells of a row.
@@ -78,8 +87,6 @@ pub extern "C" fn lugsheet_fresh(bench: &mut [u8]) -> u64
     if bench.len() != BENCH_SIZE {
         return refused(Refusal::Room, 0);
     }
-    numbers::clear(bench);
-    bench[0] = 66;
-    bench[1] = 78;
+    benches::store_fresh(bench);
     0
 }
