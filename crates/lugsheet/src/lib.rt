@@ -2,13 +2,14 @@
 // by the definitions of the crate `rules` (specs/Calls.antt). No call has a `requires`: no caller is trusted.
 
 ghost use mathlib.Core.Path.{_≡_};
-ghost use Prim.Native.Nat.{_≤_};
+ghost use Prim.Native.Nat.{_+_, _*_, _≤_};
 ghost use Rattle.rules.specs.Refusals.{refusal, number};
 ghost use Rattle.rules.specs.Steps.{carriedBound};
-ghost use Rattle.rules.specs.Calls.{checkCall, freshCall, measureCall};
+ghost use Rattle.rules.specs.Calls.{bit, checkCall, freshCall, sliceCall, measureCall};
 use reading::Verdict;
 use rules::BENCH_SIZE;
 use rules::Refusal;
+use rules::Steps;
 
 // The number of a refusal in document 01's table.
 fn number_of(q: Refusal) -> u64
@@ -89,4 +90,36 @@ pub extern "C" fn lugsheet_fresh(bench: &mut [u8]) -> u64
     }
     benches::store_fresh(bench);
     0
+}
+
+// What a slice answers: twice the steps taken, plus 1 if finished.
+fn sliced_answer(steps: Steps, finished: bool) -> u64
+    ensures { λ r. ⌜ r ≡ 2 * steps .0 + bit finished ⌝ }
+{
+    if finished {
+        return 2 * (steps.0 as u64) + 1;
+    }
+    2 * (steps.0 as u64)
+}
+
+// Takes at most `budget` steps on the lent bench.
+#[no_mangle]
+pub extern "C" fn lugsheet_slice(row: &[u8], bench: &mut [u8], budget: u32) -> u64
+    ensures answer { λ r. ⌜ r ≡ sliceCall (now (row .entry)) (now (bench .entry)) budget .answer ⌝ }
+    ensures buffer { λ _. ⌜ now (bench .exit) ≡ sliceCall (now (row .entry)) (now (bench .entry)) budget .buffer ⌝ }
+{
+    let h = reading::read_row(row);
+    let v = h.verdict;
+    if let Verdict::Refused(q) = v {
+        return refused(q, h.place);
+    }
+    if bench.len() != BENCH_SIZE {
+        return refused(Refusal::Room, 0);
+    }
+    let s = slicing::slice(h, bench, budget);
+    if !s.formed {
+        return refused(Refusal::WrongBench, 0);
+    }
+    let steps = s.steps;
+    sliced_answer(steps, s.finished)
 }
