@@ -1,12 +1,13 @@
 -- How the variables of the code stand for a reading that is under way, what one record more makes of them, and which records can stand
 -- where the code asks for one. Said of the definitions alone, so that the code's proofs only cite it.
-use Prim.Native.Nat.{ℕ, zero, suc, _+_, _-_, _<_}
+use Prim.Native.Nat.{ℕ, zero, suc, _+_, _<_}
 use mathlib.Core.Path.{_≡_, refl, sym, ap, _∙_, subst}
 use mathlib.Core.List.{List, []}
 use mathlib.Core.Bool.{true, false}
 use native.Mathlib.Omega.{arith}
 use lib.ListN.{length, getD, set, drop, length-set, replicate}
 use Rattle.rules.specs.Sizes.{mostCells}
+use Rattle.rules.specs.Row.{on}
 use Rattle.rules.specs.Records.{Reading, recordAt, takes}
 use Rattle.rules.specs.Reading.{start, after, total, readFrom, readRow}
 use Rattle.rules.specs.declared.Refusal.{Refusal}

@@ -1,16 +1,18 @@
 // Reading a whole row where the broker holds it (document 01, "The row as bytes"): one RW, n CE, then the records of m nets, then EN, the
 // tail (3) and the widths (6). Of a net only its summary is kept, stored anew at each of its records, so that no two ways meet.
 ghost use mathlib.Core.Path.{_≡_};
-ghost use Prim.Native.Nat.{_≤_};
+ghost use mathlib.Core.List.{List};
+ghost use Prim.Native.Nat.{ℕ, _≤_};
 ghost use Rattle.rules.specs.Sizes.{widest};
 ghost use Rattle.rules.specs.Records.{Reading};
 ghost use Rattle.rules.specs.Reading.{after, readRow};
 ghost use Rattle.reading.specs.declared.Verdict.the-variants.{Refused};
 ghost use Rattle.reading.specs.ReadingLaws.{goesOn};
-ghost use Rattle.reading.specs.Reads.{refusedSheet, Reads};
+ghost use Rattle.reading.specs.Reads.{refusedSheet, withoutNets, Reads};
 ghost use Rattle.reading.specs.Underway.{refusalOf};
-ghost use Rattle.reading.specs.Cells.{Through, FillsBy};
+ghost use Rattle.reading.specs.Cells.{FillsBy};
 ghost use Rattle.reading.specs.Nets.{Drafting};
+ghost use Rattle.reading.specs.Ending.{Closing, EndsBy};
 use nets::Draft;
 use nets::Net;
 use records::Progress;
@@ -41,6 +43,12 @@ struct Cells {
     pub bytes: usize,
     pub sum: u32,
     pub widths: [u32; rules::MOST_CELLS],
+}
+
+// What the last record says of the row, and the place of a refusal.
+struct Finding {
+    pub verdict: Verdict,
+    pub place: u32,
 }
 
 // Do records follow this one?
@@ -103,6 +111,25 @@ impl Sheet {
             net: [blank; rules::MOST_NETS],
         }
     }
+
+    // A row whose widths are read, and that is taken if nothing is wrong with its nets.
+    fn without_nets(h: Cells) -> Sheet
+        ensures { λ r. ⌜ r ≡ withoutNets h ⌝ }
+    {
+        let none = Draft::new(0, 0);
+        let blank = none.net;
+        let p = h.progress;
+        let widths = h.widths;
+        Sheet {
+            verdict: Verdict::Taken,
+            place: 0,
+            width: p.width,
+            cells: p.cells,
+            nets: p.nets,
+            widths: widths,
+            net: [blank; rules::MOST_NETS],
+        }
+    }
 }
 
 // One RW and n CE.
@@ -111,25 +138,24 @@ fn read_cells(s: &[u8]) -> Cells
 {
     let mut widths = [0u32; rules::MOST_CELLS];
     let none = Progress::start();
-    let r = records::read_record(none, &widths, s);
+    let r = records::read_first(s);
     let Record::Rw(_, _, _) = r else {
         return Cells::refused(refusal_of(r), none);
     };
     let mut p = none.after(r);
     let mut t = records::rest(s, r);
     let mut sum: u32 = 0;
-    let mut k = 0;
-    while k < p.cells {
-        let r = records::read_record(p, &widths, t);
+    while p.filled < p.cells {
+        let r = records::read_cell(t);
         let Record::Ce(w) = r else {
             return Cells::refused(refusal_of(r), p);
         };
+        let k = p.filled;
         widths[k] = w;
         sum += w;
         p = p.after(r);
         let u = records::rest(t, r);
         t = u;
-        k += 1;
     }
     let bytes = s.len() - t.len();
     Cells {
@@ -157,51 +183,37 @@ fn drafted_by(d: Draft, r: Record, width: u32) -> Draft
     }
 }
 
-// The records of the nets, then EN.
-fn read_nets(h: Cells, s: &[u8]) -> Sheet
-    requires { ⌜ ((c : Reading) × Through (now s) h c) ⌝ }
-    ensures { λ r. ⌜ Reads (readRow (now (s .entry))) r ⌝ }
+// A record after which none follows: EN, with the tail (3) and the widths (6), or a refusal.
+fn ended(sum: u32, p: Progress, r: Record, t: &[u8]) -> Finding
+    requires { ⌜ ((s : List ℕ) × ((c : Reading) × Closing s sum p r (now t) c)) ⌝ }
+    ensures { λ f. ⌜ ((s : List ℕ) (c : Reading) → Closing s sum p r (now (t .entry)) c → EndsBy (f .verdict) s (now (t .entry)) c (f .place)) ⌝ }
 {
-    let at = h.bytes;
-    let mut t = &s[at..];
-    let mut p = h.progress;
-    let mut d = Draft::new(0, 0);
-    let blank = d.net;
-    let mut net = [blank; rules::MOST_NETS];
-    let mut r = records::read_record(p, &h.widths, t);
-    while goes_on(r) {
-        d = drafted_by(d, r, p.width);
-        p = p.after(r);
-        let k = p.opened - 1;
-        let n = d.net;
-        net[k] = n;
-        let u = records::rest(t, r);
-        t = u;
-        r = records::read_record(p, &h.widths, t);
-    }
     let Record::En = r else {
-        return Sheet::refused(refusal_of(r), p.place);
+        return Finding {
+            verdict: Verdict::Refused(refusal_of(r)),
+            place: p.place,
+        };
     };
     let u = records::rest(t, r);
-    if u.len() > 0 {
-        return Sheet::refused(Refusal::Tail, p.place + 1);
+    if u.len() != 0 {
+        return Finding {
+            verdict: Verdict::Refused(Refusal::Tail),
+            place: p.place + 1,
+        };
     }
-    if h.sum > p.width {
-        return Sheet::refused(Refusal::Full, p.place);
+    if sum > p.width {
+        return Finding {
+            verdict: Verdict::Refused(Refusal::Full),
+            place: p.place,
+        };
     }
-    let widths = h.widths;
-    Sheet {
+    Finding {
         verdict: Verdict::Taken,
         place: 0,
-        width: p.width,
-        cells: p.cells,
-        nets: p.nets,
-        widths: widths,
-        net: net,
     }
 }
 
-// The row that some bytes are, or why they are none.
+// The row that some bytes are, or why they are none: RW and the cells, then the records of the nets up to the one that none follows.
 pub fn read_row(s: &[u8]) -> Sheet
     ensures { λ r. ⌜ Reads (readRow (now (s .entry))) r ⌝ }
 {
@@ -210,5 +222,27 @@ pub fn read_row(s: &[u8]) -> Sheet
     if let Verdict::Refused(q) = v {
         return Sheet::refused(q, h.progress.place);
     }
-    read_nets(h, s)
+    let at = h.bytes;
+    let mut t = &s[at..];
+    let mut p = h.progress;
+    let mut d = Draft::new(0, 0);
+    let mut sheet = Sheet::without_nets(h);
+    loop {
+        let r = records::read_in_nets(p, &sheet.widths, t);
+        if !goes_on(r) {
+            let f = ended(h.sum, p, r, t);
+            let v = f.verdict;
+            if let Verdict::Refused(q) = v {
+                return Sheet::refused(q, f.place);
+            }
+            return sheet;
+        }
+        d = drafted_by(d, r, p.width);
+        p = p.after(r);
+        let k = p.opened - 1;
+        let n = d.net;
+        sheet.net[k] = n;
+        let u = records::rest(t, r);
+        t = u;
+    }
 }
