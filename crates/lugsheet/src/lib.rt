@@ -5,7 +5,7 @@ ghost use mathlib.Core.Path.{_≡_};
 ghost use Prim.Native.Nat.{_+_, _*_, _≤_};
 ghost use Rattle.rules.specs.Refusals.{refusal, number};
 ghost use Rattle.rules.specs.Steps.{carriedBound};
-ghost use Rattle.rules.specs.Calls.{bit, checkCall, freshCall, sliceCall, measureCall};
+ghost use Rattle.rules.specs.Calls.{bit, checkCall, freshCall, sliceCall, placementCall, measureCall};
 use reading::Verdict;
 use rules::BENCH_SIZE;
 use rules::Refusal;
@@ -122,4 +122,32 @@ pub extern "C" fn lugsheet_slice(row: &[u8], bench: &mut [u8], budget: u32) -> u
     }
     let steps = s.steps;
     sliced_answer(steps, s.finished)
+}
+
+// Writes the positions that a finished bench gives.
+#[no_mangle]
+pub extern "C" fn lugsheet_placement(row: &[u8], bench: &[u8], placement: &mut [u8]) -> u64
+    ensures answer { λ r. ⌜ r ≡ placementCall (now (row .entry)) (now (bench .entry)) (now (placement .entry)) .answer ⌝ }
+    ensures buffer { λ _. ⌜ now (placement .exit) ≡ placementCall (now (row .entry)) (now (bench .entry)) (now (placement .entry)) .buffer ⌝ }
+{
+    let h = reading::read_row(row);
+    let v = h.verdict;
+    if let Verdict::Refused(q) = v {
+        return refused(q, h.place);
+    }
+    if bench.len() != BENCH_SIZE {
+        return refused(Refusal::Room, 0);
+    }
+    let cells = h.cells;
+    if placement.len() != 4 * cells {
+        return refused(Refusal::Room, 0);
+    }
+    let p = placing::place(h, bench, placement);
+    if !p.formed {
+        return refused(Refusal::WrongBench, 0);
+    }
+    if !p.finished {
+        return refused(Refusal::Unfinished, 0);
+    }
+    p.length
 }

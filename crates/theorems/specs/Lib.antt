@@ -16,7 +16,6 @@ pub mod Faults
 pub mod Formed
 pub mod Ending
 pub mod Slices
-pub mod AnyBench
 pub mod Measured
 pub mod Outcomes
 pub mod Calls

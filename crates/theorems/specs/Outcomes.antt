@@ -23,7 +23,7 @@ use Rattle.reading.specs.Sound.{Sound}
 use Rattle.reading.specs.SoundLaws.{sound-read}
 use Rattle.theorems.specs.Terms.{ofRow, ofFresh, ofSlice, ofPlacement, ofMeasure, EndsWell, with-result, with-refusal}
 use Rattle.theorems.specs.Faults.{ReadWell, read-well}
-use Rattle.theorems.specs.AnyBench.{finished-legal}
+use Rattle.benches.specs.LegalLaws.{finished-legal}
 use Rattle.theorems.specs.Measured.{none-legal, overlap-place, sites-length, netlength-small}
 
 -- ---- how a call goes on

@@ -2,8 +2,8 @@
 -- overlap and lie within 0..W.
 use Prim.Native.Nat.{ℕ, zero, suc, pred, _+_, _≤_}
 use mathlib.Core.Path.{_≡_, refl, ap}
-use mathlib.Core.List.{List, [], _∷_, _++_, reverse, reverse-cons}
-use mathlib.Core.Bool.{true}
+use mathlib.Core.List.{List, [], _∷_, _++_, reverse}
+use mathlib.Core.Bool.{true, false}
 use native.Mathlib.Omega.{arith}
 use borrow.Author.Tests.{leb-true, le-leb}
 use lib.ListN.{length, take, drop}
@@ -15,11 +15,12 @@ use Rattle.rules.specs.Length.{legalFrom, legal}
 use Rattle.rules.specs.Steps.{Clump, Hand, empty, holding, finishedBy, finished}
 use Rattle.rules.specs.Bench.{apart, benchOf, inForm}
 use Rattle.rules.specs.Calls.{packed, positionsIn, positions}
+use Rattle.slopes.specs.Joined.{made-width}
+use Rattle.slopes.specs.Frame.{packed-offset}
 use Rattle.slopes.specs.Forgotten.{both-left, both-right, cellsIn, MadeAt, AllMade, Proper, in-form-proper}
+use Rattle.benches.specs.BothLaws.{clash}
 use Rattle.benches.specs.FormLaws.{formed, settled-are}
-use Rattle.theorems.specs.Reach.{rest, rest-all, rest-first, made-rest}
-use Rattle.theorems.specs.LegalReach.{no-truth}
-use Rattle.theorems.specs.Positions.{rest-drop, cellsAll, cells-snoc, positions-snoc}
+use Rattle.benches.specs.PositionLaws.{total-part, positions-more}
 
 -- ---- legal lists side by side
 
@@ -36,8 +37,8 @@ legal-both : (W x from : ℕ) (us ps vs qs : List ℕ) → legalFrom x from us p
     → legalFrom W from (us ++ vs) (ps ++ qs) ≡ true
 unfolding legalFrom
 legal-both W x from [] [] vs qs l m = legal-sooner W from x vs qs (leb-true from x l) m
-legal-both W x from [] (p ∷ ps) vs qs l m = absurd (no-truth l)
-legal-both W x from (u ∷ us) [] vs qs l m = absurd (no-truth l)
+legal-both W x from [] (p ∷ ps) vs qs l m = absurd (clash false l refl)
+legal-both W x from (u ∷ us) [] vs qs l m = absurd (clash false l refl)
 legal-both W x from (u ∷ us) (p ∷ ps) vs qs l m =
     rw (
       both-left (leb from p) (legalFrom x (p + u) us ps) l,
@@ -54,36 +55,24 @@ packed-within W x (suc k) (w ∷ ws) h = rw (le-leb x x (omega arith), packed-wi
 -- ---- the clumps of a bench
 
 module _ (R : Row) where
-  cells-same : (cs : List Clump) → cellsAll (reverse cs) ≡ cellsIn cs
-  unfolding cellsAll cellsIn
-  cells-same [] = refl
-  cells-same (c ∷ cs) = rw (reverse-cons c cs) (omega (arith, cells-snoc (reverse cs) c, cells-same cs))
-
   -- a clump is as wide as its cells
   clump-width : (a : ℕ) (c : Clump) → MadeAt R a c → c .width ≡ total (take (c .cells) (drop a (R .widths)))
   clump-width a c m =
-      let later : List ℕ = drop a (R .widths) in
-      let next : a + suc (pred (c .cells)) ≡ a + c .cells = omega (arith, m .some) in
+      let all : suc (pred (c .cells)) ≡ c .cells = omega (arith, m .some) in
       omega (
         arith,
         ap (λ (d : Clump). d .width) (m .again),
-        rw next at (made-rest R a (pred (c .cells))),
-        rest-first later 0 (c .cells) (omega arith),
-        rest-all (take (c .cells) later),
-        rest-drop a 0 (R .widths),
-        rest-drop a (c .cells) (R .widths),
-        ap (rest (R .widths)) start,
+        rw all at (made-width R a (pred (c .cells))),
+        packed-offset R a (c .cells),
+        total-part (R .widths) a (c .cells),
       )
-    where
-      start : a + 0 ≡ a
-      start = omega arith
 
   clumps-legal : (limit : ℕ) (cs : List Clump) → AllMade R cs → apart limit cs ≡ true
       → legalFrom limit 0 (take (cellsIn cs) (R .widths)) (positionsIn (R .widths) (reverse cs)) ≡ true
   unfolding legalFrom apart cellsIn positionsIn
   clumps-legal limit [] m h = le-leb 0 limit (omega arith)
   clumps-legal limit (c ∷ cs) m h =
-      rw (reverse-cons c cs, positions-snoc (R .widths) (reverse cs) c, cells-same cs, take-add (cellsIn cs) (c .cells) (R .widths))
+      rw (positions-more (R .widths) cs c, take-add (cellsIn cs) (c .cells) (R .widths))
       (legal-both limit (c .edge) 0 (take (cellsIn cs) (R .widths)) (positionsIn (R .widths) (reverse cs)) _ _
       (clumps-legal (c .edge) cs (m .1) (both-right (leb (c .edge + c .width) limit) (apart (c .edge) cs) h))
       (packed-within limit (c .edge) (c .cells) (drop (cellsIn cs) (R .widths))
@@ -102,7 +91,7 @@ module _ (R : Row) where
   unfolding finishedBy
   by-hand opened carried empty settled p h f =
       all-legal settled (p .all-made) h (omega (arith, leb-true (length (R .widths)) opened f, p .all-cells))
-  by-hand opened carried (holding c) settled p h f = absurd (no-truth f)
+  by-hand opened carried (holding c) settled p h f = absurd (clash false f refl)
 
   pub finished-legal : (s : List ℕ) → inForm R s ≡ true → finished R (benchOf R s) ≡ true → legal R (positions R (benchOf R s)) ≡ true
   unfolding positions finished
