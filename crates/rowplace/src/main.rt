@@ -1,5 +1,9 @@
 // rowplace: reads a row on standard input, runs it to the finish and prints its placement, or the refusal (document 01, "Rows worked by hand").
 // A thin program over the library: all that it prints comes from the proved calls. What is read and written is tested, not proved.
+ghost use mathlib.Core.Path.{_≡_};
+ghost use Prim.Native.Nat.{_*_, _≤_};
+ghost use lib.ListN.{length};
+ghost use Rattle.rules.specs.Sizes.{mostCells};
 use libc::STDIN_FILENO;
 use libc::STDOUT_FILENO;
 use rules::BENCH_SIZE;
@@ -27,43 +31,66 @@ fn print_refused(answer: u64) {
 }
 
 // Cell and position, a line each.
-fn print_cells(placement: &[u8]) {
+fn print_cells(sites: &[u8], cells: usize)
+    requires { ⌜ (4 * cells ≤ length (now sites)) × (cells ≤ mostCells) ⌝ }
+{
     let mut i: usize = 0;
-    while 4 * i + 4 <= placement.len() {
+    while i < cells {
         number(i as u64);
-        field(numbers::u32_at(placement, 4 * i) as u64);
+        field(numbers::u32_at(sites, 4 * i) as u64);
         text(b"\n");
         i += 1;
     }
 }
 
 // The word done, netlength, steps, carried and the bound on carried.
-fn print_done(length: u64, sliced: u64, bench: &[u8; BENCH_SIZE], nets: u16) {
+fn print_done(netlength: u64, sliced: u64, carried: u32, nets: u16) {
     text(b"done");
-    field(length);
+    field(netlength);
     field(sliced / 2);
-    field(numbers::u32_at(bench, 7) as u64);
+    field(carried as u64);
     field(lugsheet::carried_bound(nets));
     text(b"\n");
 }
 
-fn place(row: &[u8]) {
-    let cells = lugsheet::lugsheet_check(row);
-    if cells >= 9223372036854775808 {
-        print_refused(cells);
-        return;
-    }
-    if cells > MOST_CELLS as u64 || row.len() < 10 {
-        return;
-    }
+// Room for the positions of the most cells.
+fn room() -> [u8; 4 * MOST_CELLS]
+    ensures { λ r. ⌜ length r ≡ 4 * mostCells ⌝ }
+{
+    [0; 4 * MOST_CELLS]
+}
+
+// Runs a row that is not refused to the finish, and prints what comes of it.
+fn run(row: &[u8], sites: &mut [u8], cells: usize)
+    requires { ⌜ (length (now sites) ≡ 4 * cells) × (cells ≤ mostCells) × (10 ≤ length (now row)) ⌝ }
+{
     let mut bench = [0u8; BENCH_SIZE];
     lugsheet::lugsheet_fresh(&mut bench);
     let sliced = lugsheet::lugsheet_slice(row, &mut bench, 4294967295);
-    let mut sites = [0u8; 4 * MOST_CELLS];
-    let end = 4 * (cells as usize);
-    let length = lugsheet::lugsheet_placement(row, &bench, &mut sites[..end]);
-    print_done(length, sliced, &bench, numbers::u16_at(row, 8));
-    print_cells(&sites[..end]);
+    let netlength = lugsheet::lugsheet_placement(row, &bench, sites);
+    print_done(
+        netlength,
+        sliced,
+        numbers::u32_at(&bench, 7),
+        numbers::u16_at(row, 8),
+    );
+    print_cells(sites, cells);
+}
+
+// A row that is taken has at least ten bytes and at most so many cells: the second test refuses nothing.
+fn place(row: &[u8]) {
+    let answer = lugsheet::lugsheet_check(row);
+    if answer >= 9223372036854775808 {
+        print_refused(answer);
+        return;
+    }
+    if answer > 256 || row.len() < 10 {
+        return;
+    }
+    let cells = answer as usize;
+    let end = 4 * cells;
+    let mut sites = room();
+    run(row, &mut sites[..end], cells);
 }
 
 fn main() {
