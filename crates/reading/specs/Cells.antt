@@ -15,6 +15,7 @@ use Rattle.rules.specs.declared.Record.the-variants.{Rw, Ce}
 use Rattle.records.specs.declared.Progress.{Progress}
 use Rattle.records.specs.Progress.{progressAfter}
 use Rattle.records.specs.Shows.{Shows}
+use Rattle.records.specs.Parts.{AtCells}
 use Rattle.reading.specs.SoundLaws.{start-good, total-small}
 use Rattle.reading.specs.ReadingLaws.{record-fits, read-refused}
 use Rattle.reading.specs.Underway.{Underway, told, next-cell, next-other, refusalOf, row-or-refused, cell-or-refused}
@@ -44,6 +45,9 @@ first-cells s ws p w n m shows room is =
 module _ (s ws : List ℕ) (sum : ℕ) (p : Progress) (t : List ℕ) (c : Reading) (i : InCells s ws sum p t c) where
   pub tail-within : length t ≤ length s
   tail-within = omega (arith, ap length (i .tail .1 .1), length-drop (i .tail .0) s)
+
+  pub cell-due : p .filled < p .cells → AtCells c
+  cell-due few = record { started = i .started; fewer = omega (arith, i .underway .shows .filled, i .underway .shows .cells); none = i .none }
 
   -- widths of a million each for 256 cells add to far less than 2^32
   pub sum-small : sum ≤ widest * mostCells

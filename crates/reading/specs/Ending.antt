@@ -1,30 +1,31 @@
 -- The end of a row: what EN and the bytes after it make of what was read (3, then 6, then taken), and that the code's struct then holds
 -- the row.
-use Prim.Native.Nat.{ℕ, zero, suc, _+_, _≤_, _<_}
-use mathlib.Core.Path.{_≡_, refl, sym, ap, _∙_}
+use Prim.Native.Nat.{ℕ, _+_, _≤_, _<_}
+use mathlib.Core.Path.{_≡_, refl, sym, _∙_}
 use mathlib.Core.List.{List, [], _∷_, _++_, reverse, reverse-cons}
+use mathlib.Core.Bool.{false}
 use mathlib.Core.Logic.{⊎-elim}
 use native.Mathlib.Omega.{arith}
 use native.Mathlib.Nat.{eq-or-lt-of-le}
 use lib.ListN.{length, getD, drop, length-reverse, List·getD-append}
-use lib.Seq.{getD-append-add}
 use borrow.Author.Tests.{ne-eqb, eq-eqb, le-leb, lt-leb}
 use Rattle.rules.specs.Row.{Net as Listed, Row}
 use Rattle.rules.specs.Records.{Reading, recordAt}
-use Rattle.rules.specs.Reading.{Read, taken, refused, total, ended, readFrom, readRow}
+use Rattle.rules.specs.Reading.{Read, taken, refused, total, ended, readRow}
 use Rattle.rules.specs.declared.Refusal.{Refusal}
 use Rattle.rules.specs.declared.Refusal.the-variants.{Tail, Full}
+use Rattle.rules.specs.declared.Record.{Record}
 use Rattle.rules.specs.declared.Record.the-variants.{En, Refused}
 use Rattle.records.specs.declared.Progress.{Progress}
 use Rattle.nets.specs.Summary.{summary}
 use Rattle.nets.specs.declared.Net.{Net}
 use Rattle.nets.specs.declared.Draft.{Draft}
-use Rattle.reading.specs.ReadingLaws.{read-refused, read-end}
+use Rattle.reading.specs.ReadingLaws.{goesOn, read-refused, read-end}
 use Rattle.reading.specs.SoundLaws.{ended-sound}
-use Rattle.reading.specs.Reads.{blank, noNet, noNets, noWidths, refusedSheet, Holds, Empty, Reads}
+use Rattle.reading.specs.Reads.{blank, noNet, refusedSheet, Reads}
 use Rattle.reading.specs.Underway.{told}
 use Rattle.reading.specs.Nets.{Stored, InNets}
-use Rattle.reading.specs.declared.Sheet.{Sheet}
+use Rattle.reading.specs.declared.Cells.{Cells}
 use Rattle.reading.specs.declared.Verdict.the-variants.{Taken}
 
 -- ---- the last two checks
@@ -105,3 +106,10 @@ module _ (s ws : List ℕ) (sum : ℕ) (p : Progress) (t : List ℕ) (d : Draft)
               sound = ended-sound c (drop 2 t) R (u .good) m end;
             },
           )
+
+-- a record after which none follows, with the variables that stand for the reading before it
+pub record Closing (s : List ℕ) (h : Cells) (p : Progress) (net : List Net) (r : Record) (t : List ℕ) (c : Reading) : Type 0 where
+  pub draft : Draft
+  pub nets : InNets s (h .widths) (h .sum) p t draft net c
+  pub is : recordAt c t ≡ r
+  pub last : goesOn r ≡ false

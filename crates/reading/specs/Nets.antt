@@ -1,5 +1,5 @@
 -- The nets: what the loop over their records keeps, and what one record more makes of it.
-use Prim.Native.Nat.{ℕ, zero, suc, _-_, _≤_, _<_}
+use Prim.Native.Nat.{ℕ, suc, _-_, _≤_, _<_}
 use mathlib.Core.Path.{_≡_, refl, sym, ap, _∙_, subst}
 use mathlib.Core.List.{List, [], _∷_}
 use mathlib.Core.Bool.{true}
@@ -16,6 +16,7 @@ use Rattle.records.specs.declared.Progress.{Progress}
 use Rattle.records.specs.Progress.{progressAfter}
 use Rattle.records.specs.ShowsLaws.{same-nets}
 use Rattle.records.specs.May.{May}
+use Rattle.records.specs.Parts.{AtNets}
 use Rattle.nets.specs.Summary.{summary, drafted, withPinOf}
 use Rattle.nets.specs.declared.Net.{Net}
 use Rattle.nets.specs.declared.Draft.{Draft}
@@ -52,6 +53,9 @@ pub record InNets (s ws : List ℕ) (sum : ℕ) (p : Progress) (t : List ℕ) (d
   pub stored : Stored (c .head .width) net (c .nets)
   pub unused : (k : ℕ) → length (c .nets) ≤ k → getD net k blank ≡ blank
   pub slots : length net ≡ mostNets
+
+pub at-nets : (s ws : List ℕ) (sum : ℕ) (p : Progress) (t : List ℕ) (d : Draft) (net : List Net) (c : Reading) → InNets s ws sum p t d net c → AtNets c
+at-nets s ws sum p t d net c i = record { started = i .started; all-cells = i .all-cells }
 
 -- the part of a slice from a place to its end
 pub tail-is : (s : List ℕ) (k : ℕ) → take (length s - k) (drop k s) ≡ drop k s

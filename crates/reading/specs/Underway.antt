@@ -1,17 +1,15 @@
 -- How the variables of the code stand for a reading that is under way, what one record more makes of them, and which records can stand
 -- where the code asks for one. Said of the definitions alone, so that the code's proofs only cite it.
-use Prim.Native.Nat.{ℕ, zero, suc, _+_, _-_, _*_, _≤_, _<_}
+use Prim.Native.Nat.{ℕ, zero, suc, _+_, _<_}
 use mathlib.Core.Path.{_≡_, refl, sym, ap, _∙_, subst}
-use mathlib.Core.List.{List, [], _∷_, _++_, reverse, reverse-cons}
-use mathlib.Core.Bool.{Bool, true, false}
-use mathlib.Core.Logic.{⊎-elim}
+use mathlib.Core.List.{List, []}
+use mathlib.Core.Bool.{true, false}
 use native.Mathlib.Omega.{arith}
-use lib.ListN.{length, getD, set, drop, length-set, length-drop, length-reverse, length-replicate, replicate, List·getD-append}
-use lib.Seq.{getD-set-same, getD-set-other, getD-append-add, drop-drop}
-use Rattle.rules.specs.Sizes.{widest, mostCells, mostNets}
-use Rattle.rules.specs.Row.{Pin, fixed, on, Net as Listed, Row}
+use lib.ListN.{length, getD, set, drop, length-set, replicate}
+use Rattle.rules.specs.Sizes.{mostCells}
+use Rattle.rules.specs.Row.{on}
 use Rattle.rules.specs.Records.{Reading, recordAt, takes}
-use Rattle.rules.specs.Reading.{Read, taken, refused, start, withPin, after, total, ended, readFrom, readRow}
+use Rattle.rules.specs.Reading.{start, after, total, readFrom, readRow}
 use Rattle.rules.specs.declared.Refusal.{Refusal}
 use Rattle.rules.specs.declared.Refusal.the-variants.{WrongMark}
 use Rattle.rules.specs.declared.Record.{Record}
@@ -19,17 +17,11 @@ use Rattle.rules.specs.declared.Record.the-variants.{Rw, Ce, Nt, Fp, Mp, En, Re
 use Rattle.records.specs.declared.Progress.{Progress}
 use Rattle.records.specs.Progress.{progressAfter}
 use Rattle.records.specs.Shows.{Shows}
-use Rattle.records.specs.ShowsLaws.{shows-after, width-stored, same-nets}
+use Rattle.records.specs.ShowsLaws.{shows-after, width-stored}
 use Rattle.records.specs.May.{May}
-use Rattle.records.specs.Answers.{answers-may, takes-fit}
-use Rattle.nets.specs.Summary.{summary, drafted, withPinOf}
-use Rattle.nets.specs.declared.Net.{Net}
-use Rattle.nets.specs.declared.Draft.{Draft}
-use Rattle.reading.specs.ReadingLaws.{goesOn, read-more, read-refused}
-use Rattle.reading.specs.SoundLaws.{Good, behind, start-good, after-good, total-more, total-small}
-use Rattle.reading.specs.Reads.{blank, noNet, noNets}
-use Rattle.reading.specs.declared.Cells.{Cells}
-use Rattle.reading.specs.declared.Verdict.the-variants.{Taken}
+use Rattle.records.specs.Answers.{answers-may}
+use Rattle.reading.specs.ReadingLaws.{goesOn, read-more}
+use Rattle.reading.specs.SoundLaws.{Good, after-good, total-more}
 
 -- an array filled with its own default
 pub all-alike {ℓ} : {A : Type ℓ} (n k : ℕ) (x : A) → getD (replicate n x) k x ≡ x

@@ -1,7 +1,8 @@
 // Reading a whole row where the broker holds it (document 01, "The row as bytes"): one RW, n CE, then the records of m nets, then EN, the
 // tail (3) and the widths (6). Of a net only its summary is kept, stored anew at each of its records, so that no two ways meet.
 ghost use mathlib.Core.Path.{_≡_};
-ghost use Prim.Native.Nat.{_≤_};
+ghost use mathlib.Core.List.{List};
+ghost use Prim.Native.Nat.{ℕ, _≤_};
 ghost use Rattle.rules.specs.Sizes.{widest};
 ghost use Rattle.rules.specs.Records.{Reading};
 ghost use Rattle.rules.specs.Reading.{after, readRow};
@@ -11,6 +12,7 @@ ghost use Rattle.reading.specs.Reads.{refusedSheet, Reads};
 ghost use Rattle.reading.specs.Underway.{refusalOf};
 ghost use Rattle.reading.specs.Cells.{Through, FillsBy};
 ghost use Rattle.reading.specs.Nets.{Drafting};
+ghost use Rattle.reading.specs.Ending.{Closing};
 use nets::Draft;
 use nets::Net;
 use records::Progress;
@@ -111,7 +113,7 @@ fn read_cells(s: &[u8]) -> Cells
 {
     let mut widths = [0u32; rules::MOST_CELLS];
     let none = Progress::start();
-    let r = records::read_record(none, &widths, s);
+    let r = records::read_first(s);
     let Record::Rw(_, _, _) = r else {
         return Cells::refused(refusal_of(r), none);
     };
@@ -119,7 +121,7 @@ fn read_cells(s: &[u8]) -> Cells
     let mut t = records::rest(s, r);
     let mut sum: u32 = 0;
     while p.filled < p.cells {
-        let r = records::read_record(p, &widths, t);
+        let r = records::read_cell(t);
         let Record::Ce(w) = r else {
             return Cells::refused(refusal_of(r), p);
         };
@@ -156,28 +158,11 @@ fn drafted_by(d: Draft, r: Record, width: u32) -> Draft
     }
 }
 
-// The records of the nets, then EN.
-fn read_nets(h: Cells, s: &[u8]) -> Sheet
-    requires { ⌜ ((c : Reading) × Through (now s) h c) ⌝ }
-    ensures { λ r. ⌜ Reads (readRow (now (s .entry))) r ⌝ }
+// A record after which none follows: EN, with the tail (3) and the widths (6), or a refusal.
+fn ended(h: Cells, p: Progress, net: [Net; rules::MOST_NETS], r: Record, t: &[u8]) -> Sheet
+    requires { ⌜ ((s : List ℕ) × ((c : Reading) × Closing s h p net r (now t) c)) ⌝ }
+    ensures { λ x. ⌜ ((s : List ℕ) (c : Reading) → Closing s h p net r (now (t .entry)) c → Reads (readRow s) x) ⌝ }
 {
-    let at = h.bytes;
-    let mut t = &s[at..];
-    let mut p = h.progress;
-    let mut d = Draft::new(0, 0);
-    let blank = d.net;
-    let mut net = [blank; rules::MOST_NETS];
-    let mut r = records::read_record(p, &h.widths, t);
-    while goes_on(r) {
-        d = drafted_by(d, r, p.width);
-        p = p.after(r);
-        let k = p.opened - 1;
-        let n = d.net;
-        net[k] = n;
-        let u = records::rest(t, r);
-        t = u;
-        r = records::read_record(p, &h.widths, t);
-    }
     let Record::En = r else {
         return Sheet::refused(refusal_of(r), p.place);
     };
@@ -197,6 +182,32 @@ fn read_nets(h: Cells, s: &[u8]) -> Sheet
         nets: p.nets,
         widths: widths,
         net: net,
+    }
+}
+
+// The records of the nets, then EN.
+fn read_nets(h: Cells, s: &[u8]) -> Sheet
+    requires { ⌜ ((c : Reading) × Through (now s) h c) ⌝ }
+    ensures { λ r. ⌜ Reads (readRow (now (s .entry))) r ⌝ }
+{
+    let at = h.bytes;
+    let mut t = &s[at..];
+    let mut p = h.progress;
+    let mut d = Draft::new(0, 0);
+    let blank = d.net;
+    let mut net = [blank; rules::MOST_NETS];
+    loop {
+        let r = records::read_in_nets(p, &h.widths, t);
+        if !goes_on(r) {
+            return ended(h, p, net, r, t);
+        }
+        d = drafted_by(d, r, p.width);
+        p = p.after(r);
+        let k = p.opened - 1;
+        let n = d.net;
+        net[k] = n;
+        let u = records::rest(t, r);
+        t = u;
     }
 }
 

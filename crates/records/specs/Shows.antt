@@ -10,7 +10,6 @@ use Rattle.records.specs.declared.Progress.{Progress}
 
 pub record Shows (p : Progress) (ws : List ℕ) (c : Reading) : Type 0 where
   pub place : p .place ≡ c .place
-  pub started : p .started ≡ c .head .started
   pub width : p .width ≡ c .head .width
   pub cells : p .cells ≡ c .head .cells
   pub nets : p .nets ≡ c .head .nets

@@ -1,5 +1,6 @@
 // Reading one record of a row where the broker holds it (document 01, "The row as bytes"), and handing back the rest of its bytes.
-// A small struct says how far the reading has come; with the widths of the cells read so far it decides what the next record may be.
+// Each part of a row has a reader of its own, for the marks that may stand there: RW, then CE, then NT, FP, MP and EN. Each is called at
+// one place, so that a record that was read stays in registers. A small struct says how far the reading has come.
 ghost use mathlib.Core.Path.{_≡_};
 ghost use mathlib.Core.List.{List};
 ghost use mathlib.Core.Bool.{_&&_};
@@ -9,11 +10,13 @@ ghost use lib.IntN.{pos, negℤ};
 ghost use lib.Signed.{leZ};
 ghost use lib.ListN.{length, getD, drop};
 ghost use Rattle.rules.specs.Sizes.{widest, mostCells, mostNets, heaviest, mostPins};
-ghost use Rattle.rules.specs.Records.{Reading, markOf, sizeOf, ranged, fields, marked, recordAt, takes};
+ghost use Rattle.rules.specs.Records.{Reading, markOf, sizeOf, ranged, marked, recordAt, takes};
 ghost use Rattle.rules.specs.Reading.{start};
+ghost use Rattle.rules.specs.declared.Mark.the-variants.{NetMark, FixedMark, PinMark, EndMark};
 ghost use Rattle.rules.specs.declared.Record.the-variants.{Rw, Ce, Nt, Fp, Mp};
 ghost use Rattle.records.specs.Shows.{Shows};
-ghost use Rattle.records.specs.Progress.{allowedBy, lonelyBy, Small, progressAfter};
+ghost use Rattle.records.specs.Progress.{Small, progressAfter};
+ghost use Rattle.records.specs.Parts.{AtCells, AtNets};
 use rules::Mark;
 use rules::Record;
 use rules::Refusal;
@@ -26,7 +29,6 @@ const RIGHTMOST: i32 = rules::WIDEST as i32;
 // How far the reading of a row has come, without the lists: the place of the record that comes next, what RW said, and what was read since.
 pub struct Progress {
     pub place: u32,
-    pub started: bool,
     pub width: u32,
     pub cells: usize,
     pub nets: usize,
@@ -39,7 +41,7 @@ pub struct Progress {
 }
 
 // The two letters of a mark, the first of them low.
-pub fn mark_of(m: u16) -> Mark
+fn mark_of(m: u16) -> Mark
     ensures { λ r. ⌜ r ≡ markOf m ⌝ }
 {
     match m {
@@ -54,7 +56,7 @@ pub fn mark_of(m: u16) -> Mark
 }
 
 // The bytes of a whole record: its mark, and its numbers of 4 or 2 bytes.
-pub fn size_of(m: Mark) -> usize
+fn size_of(m: Mark) -> usize
     ensures { λ r. ⌜ r ≡ sizeOf m ⌝ }
 {
     match m {
@@ -75,7 +77,6 @@ impl Progress {
     {
         Progress {
             place: 0,
-            started: false,
             width: 0,
             cells: 0,
             nets: 0,
@@ -83,38 +84,6 @@ impl Progress {
             opened: 0,
             pins: 0,
             pinned: true,
-        }
-    }
-
-    // May a record with this mark come next? One RW, n CE, then m nets, each of them NT and its pins, then EN.
-    fn allows(self, m: Mark) -> bool
-        ensures { λ r. ⌜ r ≡ allowedBy self m ⌝ }
-    {
-        match m {
-            Mark::RowMark => !self.started,
-            Mark::CellMark => self.started & (self.filled < self.cells),
-            Mark::NetMark => self.started & (self.filled == self.cells) & (self.opened < self.nets),
-            Mark::FixedMark => 0 < self.opened,
-            Mark::PinMark => 0 < self.opened,
-            Mark::EndMark => self.started
-                & (self.filled == self.cells)
-                & (self.opened == self.nets),
-            Mark::NoMark => false,
-        }
-    }
-
-    // Does a record with this mark close a net that has no MP?
-    fn leaves_lonely(self, m: Mark) -> bool
-        ensures { λ r. ⌜ r ≡ lonelyBy self m ⌝ }
-    {
-        match m {
-            Mark::RowMark => false,
-            Mark::CellMark => false,
-            Mark::NetMark => !self.pinned,
-            Mark::FixedMark => false,
-            Mark::PinMark => false,
-            Mark::EndMark => !self.pinned,
-            Mark::NoMark => false,
         }
     }
 
@@ -126,7 +95,6 @@ impl Progress {
         match r {
             Record::Rw(w, n, m) => {
                 self.place += 1;
-                self.started = true;
                 self.width = w;
                 self.cells = n as usize;
                 self.nets = m as usize;
@@ -242,59 +210,124 @@ fn pin_of(
     Record::Mp(cell, offset)
 }
 
-// The record that whole bytes say by their mark.
-fn read_fields(p: Progress, widths: &[u32; rules::MOST_CELLS], m: Mark, s: &[u8]) -> Record
-    requires { ⌜ p .cells ≤ mostCells ⌝ }
-    requires { ⌜ sizeOf m ≤ length (now s) ⌝ }
-    ensures { λ r. ⌜ ((c : Reading) → Shows p (now (widths .entry)) c → r ≡ fields c m (now (s .entry))) ⌝ }
-{
-    match m {
-        Mark::RowMark => row_of(
-            numbers::u32_at(s, 2),
-            numbers::u16_at(s, 6),
-            numbers::u16_at(s, 8),
-        ),
-        Mark::CellMark => cell_of(numbers::u32_at(s, 2)),
-        Mark::NetMark => net_of(numbers::u32_at(s, 2)),
-        Mark::FixedMark => fixed_of(numbers::i32_at(s, 2), p.pins),
-        Mark::PinMark => pin_of(
-            numbers::u16_at(s, 2),
-            numbers::u32_at(s, 4),
-            p.pins,
-            p.cells,
-            widths,
-        ),
-        Mark::EndMark => Record::En,
-        Mark::NoMark => Record::Refused(Refusal::WrongMark),
-    }
-}
-
-// A record whose two mark bytes are there: mark (2), lonely net (5), body short (1), fields in order (4).
-fn read_marked(p: Progress, widths: &[u32; rules::MOST_CELLS], m: Mark, s: &[u8]) -> Record
-    requires { ⌜ p .cells ≤ mostCells ⌝ }
-    ensures { λ r. ⌜ ((c : Reading) → Shows p (now (widths .entry)) c → r ≡ marked c m (now (s .entry))) ⌝ }
-{
-    if !p.allows(m) {
-        return Record::Refused(Refusal::WrongMark);
-    }
-    if p.leaves_lonely(m) {
-        return Record::Refused(Refusal::Lonely);
-    }
-    if s.len() < size_of(m) {
-        return Record::Refused(Refusal::Cut);
-    }
-    read_fields(p, widths, m, s)
-}
-
-// The record at the start of the bytes: with its numbers, or why it is refused.
-pub fn read_record(p: Progress, widths: &[u32; rules::MOST_CELLS], s: &[u8]) -> Record
-    requires { ⌜ p .cells ≤ mostCells ⌝ }
-    ensures { λ r. ⌜ ((c : Reading) → Shows p (now (widths .entry)) c → r ≡ recordAt c (now (s .entry))) ⌝ }
+// The first record of a row: RW. As in every record, fewer than two bytes (1) come before the mark (2), then body short (1), fields (4).
+pub fn read_first(s: &[u8]) -> Record
+    ensures { λ r. ⌜ r ≡ recordAt start (now (s .entry)) ⌝ }
 {
     if s.len() < 2 {
         return Record::Refused(Refusal::Cut);
     }
-    read_marked(p, widths, mark_of(numbers::u16_at(s, 0)), s)
+    let m = mark_of(numbers::u16_at(s, 0));
+    let Mark::RowMark = m else {
+        return Record::Refused(Refusal::WrongMark);
+    };
+    if s.len() < size_of(m) {
+        return Record::Refused(Refusal::Cut);
+    }
+    row_of(
+        numbers::u32_at(s, 2),
+        numbers::u16_at(s, 6),
+        numbers::u16_at(s, 8),
+    )
+}
+
+// A record while the width of a cell is missing: CE.
+pub fn read_cell(s: &[u8]) -> Record
+    ensures { λ r. ⌜ ((c : Reading) → AtCells c → r ≡ recordAt c (now (s .entry))) ⌝ }
+{
+    if s.len() < 2 {
+        return Record::Refused(Refusal::Cut);
+    }
+    let m = mark_of(numbers::u16_at(s, 0));
+    let Mark::CellMark = m else {
+        return Record::Refused(Refusal::WrongMark);
+    };
+    if s.len() < size_of(m) {
+        return Record::Refused(Refusal::Cut);
+    }
+    cell_of(numbers::u32_at(s, 2))
+}
+
+// NT: one net more, after one that has an MP.
+fn read_net(p: Progress, s: &[u8]) -> Record
+    ensures { λ r. ⌜ ((ws : List ℕ) (c : Reading) → Shows p ws c → AtNets c → r ≡ marked c NetMark (now (s .entry))) ⌝ }
+{
+    if p.opened >= p.nets {
+        return Record::Refused(Refusal::WrongMark);
+    }
+    if !p.pinned {
+        return Record::Refused(Refusal::Lonely);
+    }
+    if s.len() < size_of(Mark::NetMark) {
+        return Record::Refused(Refusal::Cut);
+    }
+    net_of(numbers::u32_at(s, 2))
+}
+
+// FP: a fixed pin of the open net.
+fn read_fixed(p: Progress, s: &[u8]) -> Record
+    ensures { λ r. ⌜ ((ws : List ℕ) (c : Reading) → Shows p ws c → r ≡ marked c FixedMark (now (s .entry))) ⌝ }
+{
+    if p.opened == 0 {
+        return Record::Refused(Refusal::WrongMark);
+    }
+    if s.len() < size_of(Mark::FixedMark) {
+        return Record::Refused(Refusal::Cut);
+    }
+    fixed_of(numbers::i32_at(s, 2), p.pins)
+}
+
+// MP: a pin of the open net on a cell.
+fn read_pin(p: Progress, widths: &[u32; rules::MOST_CELLS], s: &[u8]) -> Record
+    requires { ⌜ p .cells ≤ mostCells ⌝ }
+    ensures { λ r. ⌜ ((c : Reading) → Shows p (now (widths .entry)) c → r ≡ marked c PinMark (now (s .entry))) ⌝ }
+{
+    if p.opened == 0 {
+        return Record::Refused(Refusal::WrongMark);
+    }
+    if s.len() < size_of(Mark::PinMark) {
+        return Record::Refused(Refusal::Cut);
+    }
+    pin_of(
+        numbers::u16_at(s, 2),
+        numbers::u32_at(s, 4),
+        p.pins,
+        p.cells,
+        widths,
+    )
+}
+
+// EN: all nets are there, and the last one has an MP.
+fn read_end(p: Progress) -> Record
+    ensures { λ r. ⌜ ((ws : List ℕ) (c : Reading) → Shows p ws c → AtNets c → (s : List ℕ) → 2 ≤ length s → r ≡ marked c EndMark s) ⌝ }
+{
+    if p.opened != p.nets {
+        return Record::Refused(Refusal::WrongMark);
+    }
+    if p.pinned {
+        return Record::En;
+    }
+    Record::Refused(Refusal::Lonely)
+}
+
+// A record once all widths are read: of a net, or EN.
+pub fn read_in_nets(p: Progress, widths: &[u32; rules::MOST_CELLS], s: &[u8]) -> Record
+    requires { ⌜ p .cells ≤ mostCells ⌝ }
+    ensures { λ r. ⌜ ((c : Reading) → Shows p (now (widths .entry)) c → AtNets c → r ≡ recordAt c (now (s .entry))) ⌝ }
+{
+    if s.len() < 2 {
+        return Record::Refused(Refusal::Cut);
+    }
+    let m = mark_of(numbers::u16_at(s, 0));
+    match m {
+        Mark::RowMark => Record::Refused(Refusal::WrongMark),
+        Mark::CellMark => Record::Refused(Refusal::WrongMark),
+        Mark::NetMark => read_net(p, s),
+        Mark::FixedMark => read_fixed(p, s),
+        Mark::PinMark => read_pin(p, widths, s),
+        Mark::EndMark => read_end(p),
+        Mark::NoMark => Record::Refused(Refusal::WrongMark),
+    }
 }
 
 // The bytes that a record takes; a refused one takes none.

@@ -1,9 +1,8 @@
 -- RW and the cells: the variables stand for a reading in the cells, and each CE carries it on. The measure is the widths still missing.
 use Prim.Native.Nat.{ℕ, _-_}
 use mathlib.Core.Path.{_≡_, refl, subst, _∙_, sym}
-use mathlib.Core.List.{List, [], _∷_}
 use native.Mathlib.Omega.{arith}
-use lib.ListN.{replicate, getD}
+use lib.ListN.{replicate}
 use borrow.Author.Needs.{needs}
 use types.Run.{OneOf, miss}
 use denote.Enum.Declared.{tagOf}
@@ -18,7 +17,7 @@ use Rattle.records.specs.Shows.{Shows}
 use Rattle.records.specs.Within.{within-small, within-start}
 use Rattle.reading.specs.ReadingLaws.{record-fits}
 use Rattle.reading.specs.Underway.{all-alike, told}
-use Rattle.reading.specs.Cells.{InCells, first-cells, tail-within, sum-small, more-cells, cells-through, cells-refused, row-refused, cell-refused}
+use Rattle.reading.specs.Cells.{InCells, first-cells, tail-within, cell-due, sum-small, more-cells, cells-through, cells-refused, row-refused, cell-refused}
 use Rattle.reading.proofs.read_cells.Statement.{statement}
 use Rattle.reading.proofs.read_cells.Tie as tie
 
@@ -33,23 +32,25 @@ shown : (c : tie.After-start Inv-loop μ-loop) → Shows (c .start .result) (rep
 shown c = c .start .ensures (replicate mostCells 0) (λ i. all-alike mostCells i 0)
 
 -- the first record, and the one of a turn
-first : (c : tie.After-read-record Inv-loop μ-loop) → recordAt start (c .before .before .before .before .args .s .now) ≡ c .read-record .result
-first c = sym (c .read-record .ensures start (shown (c .before .before)))
+first : (c : tie.After-read-first Inv-loop μ-loop) → recordAt start (c .before .before .before .args .s .now) ≡ c .read-first .result
+first c = sym (c .read-first .ensures)
 
-seen : (c : tie.After-read-record2 Inv-loop μ-loop)
-    → recordAt (c .before .before .before .before .loop .inv .0) (c .before .before .before .before .loop .t .now) ≡ c .read-record2 .result
-seen c = let l = c .before .before .before .before .loop in sym (c .read-record2 .ensures (l .inv .0) (l .inv .1 .underway .shows))
+seen : (c : tie.After-read-cell Inv-loop μ-loop)
+    → recordAt (c .before .before .before .loop .inv .0) (c .before .before .before .loop .t .now) ≡ c .read-cell .result
+seen c =
+    let l = c .before .before .before .loop in
+    sym (c .read-cell .ensures (l .inv .0) (cell-due _ (l .widths) (l .sum) (l .p) (l .t .now) (l .inv .0) (l .inv .1) (c .before .if1 .taken)))
 
 turn : (c : tie.After-known-told Inv-loop μ-loop)
-    → recordAt (c .before .before .before .before .before .before .before .loop .inv .0) (c .before .before .before .before .before .before .before .loop .t .now)
+    → recordAt (c .before .before .before .before .before .before .loop .inv .0) (c .before .before .before .before .before .before .loop .t .now)
     ≡ Ce (c .before .r .given .0 .0)
 turn c = seen (c .before .before .before) ∙ c .before .r .given .1
 
 start-requires : tie.Need-start-requires Inv-loop μ-loop
 start-requires c κs = search needs
 
-read-record-requires : tie.Need-read-record-requires Inv-loop μ-loop
-read-record-requires c κs = let h = shown (c .before) in omega (arith, h .cells, within-start .cells)
+read-first-requires : tie.Need-read-first-requires Inv-loop μ-loop
+read-first-requires c κs = search needs
 
 enum-told : tie.Need-enum-told Inv-loop μ-loop
 enum-told c = search needs
@@ -63,34 +64,34 @@ refused-requires c κs = search needs
 returns : tie.Need-returns Inv-loop μ-loop
 returns c =
     let read = c .before .before .before in
-    let r = read .read-record .result in
+    let r = read .read-first .result in
     let other : (w n m : ℕ) → r ≡ Rw w n m → ⊥ = λ w n m e. miss notRow 0 tt (subst (λ (x : Record). OneOf notRow (tagOf the-type x)) e (c .before .before .match .keys2)) in
-    cells-refused (read .before .before .before .before .args .s .now) (c .refused .result) (c .before .refusal-of .result) (read .before .before .start .result)
+    cells-refused (read .before .before .before .args .s .now) (c .refused .result) (c .before .refusal-of .result) (read .before .start .result)
     (c .refused .ensures .0) (c .refused .ensures .1)
-    (rw (c .before .refusal-of .ensures) (row-refused (read .before .before .before .before .args .s .now) (replicate mostCells 0) (read .before .before .start .result) r
-    (shown (read .before .before)) (first read) other))
+    (rw (c .before .refusal-of .ensures) (row-refused (read .before .before .before .args .s .now) (replicate mostCells 0) (read .before .start .result) r
+    (shown (read .before)) (first read) other))
 
 after-requires : tie.Need-after-requires Inv-loop μ-loop
-after-requires c κs = within-small (shown (c .before .before .before .before)) within-start
+after-requires c κs = within-small (shown (c .before .before .before)) within-start
 
 rest-requires : tie.Need-rest-requires Inv-loop μ-loop
 rest-requires c κs =
     let read = c .before .before .before in
-    record-fits start (read .before .before .before .before .args .s .now) (read .read-record .result) (first read)
+    record-fits start (read .before .before .before .args .s .now) (read .read-first .result) (first read)
 
 loop-holds : tie.Need-loop-holds Inv-loop μ-loop
 loop-holds c =
     let read = c .before .before .before .before in
-    let s = read .before .before .before .before .args .s .now in
+    let s = read .before .before .before .args .s .now in
     let k = c .before .before .enum-told .given in
     let is : recordAt start s ≡ Rw (k .0 .0) (k .0 .1 .0) (k .0 .1 .1 .0) = first read ∙ k .1 in (
       after start (Rw (k .0 .0) (k .0 .1 .0) (k .0 .1 .1 .0)),
       rw (c .rest .ensures, c .before .after .ensures, k .1)
-          (first-cells s (replicate mostCells 0) (read .before .before .start .result) (k .0 .0) (k .0 .1 .0) (k .0 .1 .1 .0) (shown (read .before .before)) refl is),
+          (first-cells s (replicate mostCells 0) (read .before .start .result) (k .0 .0) (k .0 .1 .0) (k .0 .1 .1 .0) (shown (read .before)) refl is),
     )
 
-read-record-requires-2 : tie.Need-read-record-requires-2 Inv-loop μ-loop
-read-record-requires-2 c κs = let l = c .before .before .before .loop in let u = l .inv .1 .underway in omega (arith, u .shows .cells, u .good .within .cells)
+read-cell-requires : tie.Need-read-cell-requires Inv-loop μ-loop
+read-cell-requires c κs = search needs
 
 enum-known-r : tie.Need-enum-known-r Inv-loop μ-loop
 enum-known-r c = search needs
@@ -104,31 +105,31 @@ refused-requires-2 c κs = search needs
 returns-2 : tie.Need-returns-2 Inv-loop μ-loop
 returns-2 c =
     let read = c .before .before .before in
-    let l = read .before .before .before .before .loop in
-    let s = read .before .before .before .before .before .before .before .before .before .before .before .before .before .args .s .now in
-    let r = read .read-record2 .result in
+    let l = read .before .before .before .loop in
+    let s = read .before .before .before .before .before .before .before .before .before .before .before .args .s .now in
+    let r = read .read-cell .result in
     let other : (w : ℕ) → r ≡ Ce w → ⊥ = λ w e. miss notCell 1 tt (subst (λ (x : Record). OneOf notCell (tagOf the-type x)) e (c .before .before .match2 .keys2)) in
     cells-refused s (c .refused2 .result) (c .before .refusal-of2 .result) (l .p) (c .refused2 .ensures .0) (c .refused2 .ensures .1)
-    (rw (c .before .refusal-of2 .ensures) (cell-refused s (l .widths) (l .sum) (l .p) (l .t .now) (l .inv .0) (l .inv .1) r (seen read) (read .before .before .if1 .taken) other))
+    (rw (c .before .refusal-of2 .ensures) (cell-refused s (l .widths) (l .sum) (l .p) (l .t .now) (l .inv .0) (l .inv .1) r (seen read) (read .before .if1 .taken) other))
 
 mul-widths : tie.Need-mul-widths Inv-loop μ-loop
 mul-widths c = search needs
 
 array-write-widths : tie.Need-array-write-widths Inv-loop μ-loop
-array-write-widths c = let l = c .before .before .before .before .before .before .before .loop in let u = l .inv .1 .underway in omega (arith, u .shows .cells, u .good .within .cells)
+array-write-widths c = let l = c .before .before .before .before .before .before .loop in let u = l .inv .1 .underway in omega (arith, u .shows .cells, u .good .within .cells)
 
 add-sum : tie.Need-add-sum Inv-loop μ-loop
 add-sum c =
-    let l = c .before .before .before .before .before .before .before .loop in
+    let l = c .before .before .before .before .before .before .loop in
     let most = told (l .inv .0) (l .t .now) (Ce (c .before .r .given .0 .0)) (turn c) .most in
     omega (arith, sum-small _ (l .widths) (l .sum) (l .p) (l .t .now) (l .inv .0) (l .inv .1))
 
 after-requires-2 : tie.Need-after-requires-2 Inv-loop μ-loop
-after-requires-2 c κs = let l = c .before .before .before .before .before .before .before .loop in within-small (l .inv .1 .underway .shows) (l .inv .1 .underway .good .within)
+after-requires-2 c κs = let l = c .before .before .before .before .before .before .loop in within-small (l .inv .1 .underway .shows) (l .inv .1 .underway .good .within)
 
 rest-requires-2 : tie.Need-rest-requires-2 Inv-loop μ-loop
 rest-requires-2 c κs =
-    let l = c .before .before .before .before .before .before .before .before .loop in
+    let l = c .before .before .before .before .before .before .before .loop in
     record-fits (l .inv .0) (l .t .now) (Ce (c .before .before .r .given .0 .0)) (turn (c .before))
 
 loop-less : tie.Need-loop-less Inv-loop μ-loop
@@ -137,7 +138,7 @@ loop-less c = rw (c .before .after2 .ensures) (omega arith)
 loop-again : tie.Need-loop-again Inv-loop μ-loop
 loop-again c =
     let told = c .before .before in
-    let l = told .before .before .before .before .before .before .before .loop in
+    let l = told .before .before .before .before .before .before .loop in
     let w = told .before .r .given .0 .0 in (
       after (l .inv .0) (Ce w),
       rw (c .rest2 .ensures, c .before .after2 .ensures) (more-cells _ (l .widths) (l .sum) (l .p) (l .t .now) (l .inv .0) (l .inv .1) w (turn told)),
@@ -156,7 +157,7 @@ read-cells-spec =
     Inv-loop
     μ-loop
     start-requires
-    read-record-requires
+    read-first-requires
     enum-told
     refusal-of-requires
     refused-requires
@@ -164,7 +165,7 @@ read-cells-spec =
     after-requires
     rest-requires
     loop-holds
-    read-record-requires-2
+    read-cell-requires
     enum-known-r
     refusal-of-requires-2
     refused-requires-2

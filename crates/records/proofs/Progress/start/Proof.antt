@@ -8,7 +8,7 @@ use Rattle.records.proofs.Progress.start.Tie as tie
 
 returns : tie.Need-returns
 unfolding start lonely
-returns c = λ ws z. record { place = refl; started = refl; width = refl; cells = refl; nets = refl; filled = refl; opened = refl; pins = refl; pinned = refl; widths = z }
+returns c = λ ws z. record { place = refl; width = refl; cells = refl; nets = refl; filled = refl; opened = refl; pins = refl; pinned = refl; widths = z }
 
 pub start-spec : {M : Type 1} → statement M
 start-spec = tie.close (tie.spec returns)
