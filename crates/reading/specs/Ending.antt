@@ -21,12 +21,15 @@ use Rattle.nets.specs.Summary.{summary}
 use Rattle.nets.specs.declared.Net.{Net}
 use Rattle.nets.specs.declared.Draft.{Draft}
 use Rattle.reading.specs.ReadingLaws.{goesOn, read-refused, read-end}
-use Rattle.reading.specs.SoundLaws.{ended-sound}
-use Rattle.reading.specs.Reads.{blank, noNet, refusedSheet, Reads}
-use Rattle.reading.specs.Underway.{told}
+use Rattle.reading.specs.SoundLaws.{sound-read}
+use Rattle.reading.specs.Reads.{blank, noNet, refusedSheet, withoutNets, Reads}
+use Rattle.reading.specs.Underway.{Underway, told}
+use Rattle.reading.specs.Cells.{Through}
 use Rattle.reading.specs.Nets.{Stored, InNets}
 use Rattle.reading.specs.declared.Cells.{Cells}
-use Rattle.reading.specs.declared.Verdict.the-variants.{Taken}
+use Rattle.reading.specs.declared.Sheet.{Sheet}
+use Rattle.reading.specs.declared.Verdict.{Verdict}
+use Rattle.reading.specs.declared.Verdict.the-variants.{Taken, Refused as Refuse}
 
 -- ---- the last two checks
 
@@ -65,51 +68,77 @@ pub refused-reads : (x : Read) (q : Refusal) (place : ℕ) → x ≡ refused q p
 unfolding refusedSheet
 refused-reads x q place e = rw e (refl, refl, record { width = refl; cells = refl; nets = refl; widths = refl; net = refl })
 
-module _ (s ws : List ℕ) (sum : ℕ) (p : Progress) (t : List ℕ) (d : Draft) (net : List Net) (c : Reading) (i : InNets s ws sum p t d net c) where
-  pub reads-refused : (q : Refusal) → recordAt c t ≡ Refused q → Reads (readRow s) (refusedSheet q (p .place))
-  reads-refused q is = refused-reads (readRow s) q (p .place) (rw (i .underway .shows .place) (i .underway .same ∙ read-refused c t q is))
+-- the row that a reading holds
+abbrev pub rowOf : Reading → Row
+rowOf c = record { width = c .head .width; widths = c .widths; nets = reverse (c .nets) }
+
+module _ (s ws : List ℕ) (sum : ℕ) (p : Progress) (t : List ℕ) (c : Reading) (u : Underway s ws sum p t c) where
+  pub says-refused : (q : Refusal) → recordAt c t ≡ Refused q → readRow s ≡ refused q (p .place)
+  says-refused q is = rw (u .shows .place) (u .same ∙ read-refused c t q is)
 
   module _ (is : recordAt c t ≡ En) where
     at-end : readRow s ≡ ended c (drop 2 t)
-    at-end = i .underway .same ∙ read-end c t is
+    at-end = u .same ∙ read-end c t is
 
-    pub reads-tail : (length (drop 2 t) ≡ 0 → ⊥) → Reads (readRow s) (refusedSheet Tail (p .place + 1))
-    reads-tail some = refused-reads (readRow s) Tail (p .place + 1) (rw (i .underway .shows .place) (at-end ∙ ended-tail c (drop 2 t) some))
+    pub says-tail : (length (drop 2 t) ≡ 0 → ⊥) → readRow s ≡ refused Tail (p .place + 1)
+    says-tail some = rw (u .shows .place) (at-end ∙ ended-tail c (drop 2 t) some)
 
     module _ (none : length (drop 2 t) ≡ 0) where
-      pub reads-full : p .width < sum → Reads (readRow s) (refusedSheet Full (p .place))
-      reads-full more =
-          let u = i .underway in
-          refused-reads (readRow s) Full (p .place)
-          (rw (u .shows .place) (at-end ∙ ended-full c (drop 2 t) none (omega (arith, u .shows .width, u .adds))))
+      pub says-full : p .width < sum → readRow s ≡ refused Full (p .place)
+      says-full more = rw (u .shows .place) (at-end ∙ ended-full c (drop 2 t) none (omega (arith, u .shows .width, u .adds)))
 
-      pub reads-taken : sum ≤ p .width
-          → Reads (readRow s) (record { verdict = Taken; place = 0; width = p .width; cells = p .cells; nets = p .nets; widths = ws; net = net })
-      reads-taken fits =
-          let u = i .underway in
-          let end = ended-taken c (drop 2 t) none (omega (arith, u .shows .width, u .adds)) in
-          let R : Row = record { width = c .head .width; widths = c .widths; nets = reverse (c .nets) } in
-          let m = told c t En is in
-          let long = length-reverse (c .nets) in
-          rw (at-end ∙ end) (
-            refl,
-            record {
-              width = u .shows .width;
-              cells = u .shows .cells ∙ sym (i .all-cells);
-              nets = u .shows .nets ∙ sym (m .all-nets) ∙ sym long;
-              widths = u .shows .widths;
-              net = λ k h. stored-at (c .head .width) net (c .nets) (i .stored) k (omega arith);
-              unused = λ k h. i .unused k (omega arith);
-              room-cells = u .room;
-              room-nets = i .slots;
-              place = refl;
-              sound = ended-sound c (drop 2 t) R (u .good) m end;
-            },
-          )
+      pub says-taken : sum ≤ p .width → readRow s ≡ taken (rowOf c)
+      says-taken fits = at-end ∙ ended-taken c (drop 2 t) none (omega (arith, u .shows .width, u .adds))
 
 -- a record after which none follows, with the variables that stand for the reading before it
-pub record Closing (s : List ℕ) (h : Cells) (p : Progress) (net : List Net) (r : Record) (t : List ℕ) (c : Reading) : Type 0 where
-  pub draft : Draft
-  pub nets : InNets s (h .widths) (h .sum) p t draft net c
+pub record Closing (s : List ℕ) (sum : ℕ) (p : Progress) (r : Record) (t : List ℕ) (c : Reading) : Type 0 where
+  pub widths : List ℕ
+  pub underway : Underway s widths sum p t c
   pub is : recordAt c t ≡ r
   pub last : goesOn r ≡ false
+
+-- what that record says of the row
+abbrev pub EndsBy : Verdict → List ℕ → List ℕ → Reading → ℕ → Type 0
+EndsBy Taken s t c place = (recordAt c t ≡ En) × (readRow s ≡ taken (rowOf c))
+EndsBy (Refuse q) s t c place = readRow s ≡ refused q place
+
+-- the sheet that is filled while the nets are read
+pub record Filling (h : Sheet) (c : Reading) : Type 0 where
+  pub verdict : h .verdict ≡ Taken
+  pub place : h .place ≡ 0
+  pub width : h .width ≡ c .head .width
+  pub cells : h .cells ≡ c .head .cells
+  pub nets : h .nets ≡ c .head .nets
+
+pub first-filling : (s : List ℕ) (h : Cells) (c : Reading) → Through s h c → Filling (withoutNets h) c
+unfolding withoutNets
+first-filling s h c q =
+    let shows = q .underway .shows in
+    record { verdict = refl; place = refl; width = shows .width; cells = shows .cells; nets = shows .nets }
+
+-- one more net stored in it leaves the rest as it is
+pub more-filling : (h : Sheet) (c c′ : Reading) → Filling h c → c′ .head ≡ c .head → (net : List Net)
+    → Filling (record { verdict = h .verdict; place = h .place; width = h .width; cells = h .cells; nets = h .nets; widths = h .widths; net = net }) c′
+more-filling h c c′ f head net = record { verdict = f .verdict; place = f .place; width = rw head (f .width); cells = rw head (f .cells); nets = rw head (f .nets) }
+
+pub reads-taken : (s : List ℕ) (sum : ℕ) (p : Progress) (t : List ℕ) (d : Draft) (h : Sheet) (c : Reading) → InNets s (h .widths) sum p t d (h .net) c → Filling h c
+    → recordAt c t ≡ En → readRow s ≡ taken (rowOf c) → Reads (readRow s) h
+reads-taken s sum p t d h c i f is e =
+    let u = i .underway in
+    let m = told c t En is in
+    let long = length-reverse (c .nets) in
+    rw e (
+      f .verdict,
+      record {
+        width = f .width;
+        cells = f .cells ∙ sym (i .all-cells);
+        nets = f .nets ∙ sym (m .all-nets) ∙ sym long;
+        widths = u .shows .widths;
+        net = λ k l. stored-at (c .head .width) (h .net) (c .nets) (i .stored) k (omega arith);
+        unused = λ k l. i .unused k (omega arith);
+        room-cells = u .room;
+        room-nets = i .slots;
+        place = f .place;
+        sound = sound-read s (rowOf c) e;
+      },
+    )

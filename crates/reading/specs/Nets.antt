@@ -4,7 +4,7 @@ use mathlib.Core.Path.{_≡_, refl, sym, ap, _∙_, subst}
 use mathlib.Core.List.{List, [], _∷_}
 use mathlib.Core.Bool.{true}
 use native.Mathlib.Omega.{arith}
-use lib.ListN.{length, getD, set, take, drop, replicate, length-set, length-drop, length-replicate}
+use lib.ListN.{length, getD, set, take, drop, length-set, length-drop, length-replicate}
 use lib.Seq.{getD-set-same, getD-set-other, take-all}
 use Rattle.rules.specs.Sizes.{mostNets}
 use Rattle.rules.specs.Row.{Pin, fixed, on, Net as Listed}
@@ -22,7 +22,7 @@ use Rattle.nets.specs.declared.Net.{Net}
 use Rattle.nets.specs.declared.Draft.{Draft}
 use Rattle.reading.specs.ReadingLaws.{goesOn}
 use Rattle.reading.specs.SoundLaws.{behind}
-use Rattle.reading.specs.Reads.{blank, noNet, noNets}
+use Rattle.reading.specs.Reads.{blank, noNets}
 use Rattle.reading.specs.Underway.{all-alike, Underway, told, unlike, next-other}
 use Rattle.reading.specs.Cells.{Through}
 use Rattle.reading.specs.declared.Cells.{Cells}
@@ -60,11 +60,6 @@ at-nets s ws sum p t d net c i = record { started = i .started; all-cells = i .a
 -- the part of a slice from a place to its end
 pub tail-is : (s : List ℕ) (k : ℕ) → take (length s - k) (drop k s) ≡ drop k s
 tail-is s k = take-all (length s - k) (drop k s) (omega (arith, length-drop k s))
-
--- slots filled with what a draft without pins keeps
-pub no-nets : (d : Draft) → d ≡ drafted 0 noNet → replicate mostNets (d .net) ≡ noNets
-unfolding noNets blank drafted
-no-nets d e = ap (λ (x : Draft). replicate mostNets (x .net)) e
 
 pub first-nets : (s : List ℕ) (h : Cells) (t : List ℕ) (d : Draft) (net : List Net) (c : Reading) → Through s h c → t ≡ drop (h .bytes) s → net ≡ noNets
     → InNets s (h .widths) (h .sum) (h .progress) t d net c
@@ -138,6 +133,9 @@ module _ (s ws : List ℕ) (sum : ℕ) (p : Progress) (t : List ℕ) (d : Draft)
 
   onward : Underway s ws sum (progressAfter p r) (drop (takes r) t) (after c r)
   onward = next-other s ws sum p t c (i .underway) r is going (opens .widths)
+
+  pub same-head : after c r .head ≡ c .head
+  same-head = opens .head
 
   -- there is a net to store, and a slot for it
   pub slot : (1 ≤ progressAfter p r .opened) × (progressAfter p r .opened ≤ mostNets)

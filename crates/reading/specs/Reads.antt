@@ -11,8 +11,8 @@ use Rattle.rules.specs.declared.Refusal.{Refusal}
 use Rattle.nets.specs.Summary.{summary}
 use Rattle.nets.specs.declared.Net.{Net}
 use Rattle.reading.specs.Sound.{Sound}
+use Rattle.reading.specs.declared.Cells.{Cells}
 use Rattle.reading.specs.declared.Sheet.{Sheet}
-use Rattle.reading.specs.declared.Verdict.{Verdict}
 use Rattle.reading.specs.declared.Verdict.the-variants.{Taken, Refused}
 
 -- what stands where there is no cell and no net
@@ -53,3 +53,15 @@ Reads (refused q place) h = (h .verdict ≡ Refused q) × (h .place ≡ place) �
 
 unfoldable pub refusedSheet : Refusal → ℕ → Sheet
 refusedSheet q place = record { verdict = Refused q; place = place; width = 0; cells = 0; nets = 0; widths = noWidths; net = noNets }
+
+-- the widths that were read, and no nets yet
+unfoldable pub withoutNets : Cells → Sheet
+withoutNets h = record {
+  verdict = Taken;
+  place = 0;
+  width = h .progress .width;
+  cells = h .progress .cells;
+  nets = h .progress .nets;
+  widths = h .widths;
+  net = noNets;
+}

@@ -1,7 +1,7 @@
 -- What follows from a sheet that was read: its verdict tells what the bytes are, the bytes tell the whole sheet, and every net that it
 -- holds is tied to cells of the row.
 use Prim.Native.Nat.{ℕ, zero, suc, _≤_, _<_}
-use mathlib.Core.Path.{_≡_, refl, sym, ap, _∙_, subst}
+use mathlib.Core.Path.{_≡_, refl, sym, _∙_, subst}
 use mathlib.Core.List.{List, [], _∷_, List·Memᴰ as In, List·Memᴰ·head as here, List·Memᴰ·tail as there, List·Memᴰ·not-nil as not-nil, List·Memᴰ·cases-cons as cases-cons}
 use mathlib.Core.Bool.{Bool, true, false}
 use mathlib.Core.Logic.{⊎-elim}
@@ -14,15 +14,13 @@ use Rattle.rules.specs.Sizes.{heaviest}
 use Rattle.rules.specs.Row.{fixed, on, Net as Listed, Row}
 use Rattle.rules.specs.Reading.{Read, taken, refused}
 use Rattle.rules.specs.declared.Refusal.{Refusal}
-use Rattle.nets.specs.declared.Net.{Net}
 use Rattle.nets.specs.Summary.{summary}
 use Rattle.nets.specs.Span.{Tied, Kept}
 use Rattle.nets.specs.SpanLaws.{tied-kept}
 use Rattle.reading.specs.Sound.{Every, PinFits, NetFits, Pinned, Sound}
 use Rattle.reading.specs.SoundLaws.{every-at}
-use Rattle.reading.specs.Reads.{blank, noNet, Holds, Empty, Reads}
+use Rattle.reading.specs.Reads.{blank, noNet, Holds, Reads}
 use Rattle.reading.specs.declared.Sheet.{Sheet}
-use Rattle.reading.specs.declared.Verdict.{Verdict}
 use Rattle.reading.specs.declared.Verdict.the-variants.{Taken, Refused}
 
 -- ---- by the verdict

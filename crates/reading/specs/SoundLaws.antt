@@ -1,17 +1,16 @@
 -- A row that is taken is sound: what has been read so far is good, each record that may stand next keeps it so, and EN closes the last
 -- net. Also how far a reading can come: every record is counted once, so its place stays small.
 use Prim.Native.Nat.{ℕ, zero, suc, _+_, _*_, _≤_, _<_, zero-le}
-use mathlib.Core.Path.{_≡_, refl, sym, ap, _∙_, subst}
+use mathlib.Core.Path.{_≡_, refl, subst}
 use mathlib.Core.List.{List, [], _∷_, _++_, reverse, reverse-cons}
 use mathlib.Core.Bool.{Bool, true, false, cond, not}
 use native.Mathlib.Omega.{arith}
-use lib.ListN.{length, getD, drop, length-append, length-reverse}
+use lib.ListN.{length, getD, drop, length-reverse}
 use lib.Dec.{eqb, leb}
-use lib.IntN.{ℤ}
-use borrow.Author.Tests.{eqb-true, leb-true, not-false}
-use Rattle.rules.specs.Sizes.{widest, mostCells, mostNets, heaviest, mostPins}
+use borrow.Author.Tests.{leb-true, not-false}
+use Rattle.rules.specs.Sizes.{widest}
 use Rattle.rules.specs.Row.{Pin, fixed, on, Net, Row}
-use Rattle.rules.specs.Records.{Head, Reading, inNets, netOpen, hasPin, lonely, recordAt, takes}
+use Rattle.rules.specs.Records.{Reading, hasPin, lonely, recordAt, takes}
 use Rattle.rules.specs.Reading.{Read, taken, refused, start, withPin, after, total, ended, byRecord, readUpTo, readFrom, readRow}
 use Rattle.rules.specs.declared.Refusal.{Refusal}
 use Rattle.rules.specs.declared.Refusal.the-variants.{Cut, Tail, Full}

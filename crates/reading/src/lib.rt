@@ -8,11 +8,11 @@ ghost use Rattle.rules.specs.Records.{Reading};
 ghost use Rattle.rules.specs.Reading.{after, readRow};
 ghost use Rattle.reading.specs.declared.Verdict.the-variants.{Refused};
 ghost use Rattle.reading.specs.ReadingLaws.{goesOn};
-ghost use Rattle.reading.specs.Reads.{refusedSheet, Reads};
+ghost use Rattle.reading.specs.Reads.{refusedSheet, withoutNets, Reads};
 ghost use Rattle.reading.specs.Underway.{refusalOf};
-ghost use Rattle.reading.specs.Cells.{Through, FillsBy};
+ghost use Rattle.reading.specs.Cells.{FillsBy};
 ghost use Rattle.reading.specs.Nets.{Drafting};
-ghost use Rattle.reading.specs.Ending.{Closing};
+ghost use Rattle.reading.specs.Ending.{Closing, EndsBy};
 use nets::Draft;
 use nets::Net;
 use records::Progress;
@@ -43,6 +43,12 @@ struct Cells {
     pub bytes: usize,
     pub sum: u32,
     pub widths: [u32; rules::MOST_CELLS],
+}
+
+// What the last record says of the row, and the place of a refusal.
+struct Finding {
+    pub verdict: Verdict,
+    pub place: u32,
 }
 
 // Do records follow this one?
@@ -105,6 +111,25 @@ impl Sheet {
             net: [blank; rules::MOST_NETS],
         }
     }
+
+    // A row whose widths are read, and that is taken if nothing is wrong with its nets.
+    fn without_nets(h: Cells) -> Sheet
+        ensures { λ r. ⌜ r ≡ withoutNets h ⌝ }
+    {
+        let none = Draft::new(0, 0);
+        let blank = none.net;
+        let p = h.progress;
+        let widths = h.widths;
+        Sheet {
+            verdict: Verdict::Taken,
+            place: 0,
+            width: p.width,
+            cells: p.cells,
+            nets: p.nets,
+            widths: widths,
+            net: [blank; rules::MOST_NETS],
+        }
+    }
 }
 
 // One RW and n CE.
@@ -159,59 +184,36 @@ fn drafted_by(d: Draft, r: Record, width: u32) -> Draft
 }
 
 // A record after which none follows: EN, with the tail (3) and the widths (6), or a refusal.
-fn ended(h: Cells, p: Progress, net: [Net; rules::MOST_NETS], r: Record, t: &[u8]) -> Sheet
-    requires { ⌜ ((s : List ℕ) × ((c : Reading) × Closing s h p net r (now t) c)) ⌝ }
-    ensures { λ x. ⌜ ((s : List ℕ) (c : Reading) → Closing s h p net r (now (t .entry)) c → Reads (readRow s) x) ⌝ }
+fn ended(sum: u32, p: Progress, r: Record, t: &[u8]) -> Finding
+    requires { ⌜ ((s : List ℕ) × ((c : Reading) × Closing s sum p r (now t) c)) ⌝ }
+    ensures { λ f. ⌜ ((s : List ℕ) (c : Reading) → Closing s sum p r (now (t .entry)) c → EndsBy (f .verdict) s (now (t .entry)) c (f .place)) ⌝ }
 {
     let Record::En = r else {
-        return Sheet::refused(refusal_of(r), p.place);
+        return Finding {
+            verdict: Verdict::Refused(refusal_of(r)),
+            place: p.place,
+        };
     };
     let u = records::rest(t, r);
     if u.len() != 0 {
-        return Sheet::refused(Refusal::Tail, p.place + 1);
+        return Finding {
+            verdict: Verdict::Refused(Refusal::Tail),
+            place: p.place + 1,
+        };
     }
-    if h.sum > p.width {
-        return Sheet::refused(Refusal::Full, p.place);
+    if sum > p.width {
+        return Finding {
+            verdict: Verdict::Refused(Refusal::Full),
+            place: p.place,
+        };
     }
-    let widths = h.widths;
-    Sheet {
+    Finding {
         verdict: Verdict::Taken,
         place: 0,
-        width: p.width,
-        cells: p.cells,
-        nets: p.nets,
-        widths: widths,
-        net: net,
     }
 }
 
-// The records of the nets, then EN.
-fn read_nets(h: Cells, s: &[u8]) -> Sheet
-    requires { ⌜ ((c : Reading) × Through (now s) h c) ⌝ }
-    ensures { λ r. ⌜ Reads (readRow (now (s .entry))) r ⌝ }
-{
-    let at = h.bytes;
-    let mut t = &s[at..];
-    let mut p = h.progress;
-    let mut d = Draft::new(0, 0);
-    let blank = d.net;
-    let mut net = [blank; rules::MOST_NETS];
-    loop {
-        let r = records::read_in_nets(p, &h.widths, t);
-        if !goes_on(r) {
-            return ended(h, p, net, r, t);
-        }
-        d = drafted_by(d, r, p.width);
-        p = p.after(r);
-        let k = p.opened - 1;
-        let n = d.net;
-        net[k] = n;
-        let u = records::rest(t, r);
-        t = u;
-    }
-}
-
-// The row that some bytes are, or why they are none.
+// The row that some bytes are, or why they are none: RW and the cells, then the records of the nets up to the one that none follows.
 pub fn read_row(s: &[u8]) -> Sheet
     ensures { λ r. ⌜ Reads (readRow (now (s .entry))) r ⌝ }
 {
@@ -220,5 +222,27 @@ pub fn read_row(s: &[u8]) -> Sheet
     if let Verdict::Refused(q) = v {
         return Sheet::refused(q, h.progress.place);
     }
-    read_nets(h, s)
+    let at = h.bytes;
+    let mut t = &s[at..];
+    let mut p = h.progress;
+    let mut d = Draft::new(0, 0);
+    let mut sheet = Sheet::without_nets(h);
+    loop {
+        let r = records::read_in_nets(p, &sheet.widths, t);
+        if !goes_on(r) {
+            let f = ended(h.sum, p, r, t);
+            let v = f.verdict;
+            if let Verdict::Refused(q) = v {
+                return Sheet::refused(q, f.place);
+            }
+            return sheet;
+        }
+        d = drafted_by(d, r, p.width);
+        p = p.after(r);
+        let k = p.opened - 1;
+        let n = d.net;
+        sheet.net[k] = n;
+        let u = records::rest(t, r);
+        t = u;
+    }
 }

@@ -13,7 +13,7 @@ use Rattle.rules.proofs.Record.{the-type}
 use Rattle.records.specs.Within.{within-small}
 use Rattle.reading.specs.ReadingLaws.{record-fits}
 use Rattle.reading.specs.Underway.{refusalOf, end-or-refused}
-use Rattle.reading.specs.Ending.{reads-refused, reads-tail, reads-full, reads-taken}
+use Rattle.reading.specs.Ending.{says-refused, says-tail, says-full, says-taken}
 use Rattle.reading.proofs.ended.Statement.{statement}
 use Rattle.reading.proofs.ended.Tie as tie
 
@@ -31,56 +31,35 @@ enum-told c = search needs
 refusal-of-requires : tie.Need-refusal-of-requires
 refusal-of-requires c κs = search needs
 
-refused-requires : tie.Need-refused-requires
-refused-requires c κs = search needs
-
 returns : tie.Need-returns
 returns c = λ s x i.
-    let a = c .before .before .before .before .args in
-    let other : a .r ≡ En → ⊥ = λ e. miss no-end 5 tt (subst (λ (y : Record). OneOf no-end (tagOf the-type y)) e (c .before .before .match .keys2)) in
-    rw (c .refused .ensures, c .before .refusal-of .ensures) (reads-refused _ _ _ _ _ _ _ x (i .nets) (refusalOf (a .r)) (i .is ∙ end-or-refused (a .r) (i .last) other))
+    let r = c .before .before .before .args .r in
+    let other : r ≡ En → ⊥ = λ e. miss no-end 5 tt (subst (λ (y : Record). OneOf no-end (tagOf the-type y)) e (c .before .match .keys2)) in
+    rw (c .refusal-of .ensures) (says-refused s (i .widths) _ _ _ x (i .underway) (refusalOf r) (i .is ∙ end-or-refused r (i .last) other))
 
 rest-requires : tie.Need-rest-requires
 rest-requires c κs = let q = c .before .before .before .pre in record-fits (q .1 .0) _ _ (q .1 .1 .is)
 
-add-refused : tie.Need-add-refused
-add-refused c = let u = c .before .before .before .before .before .before .pre .1 .1 .nets .underway in omega (arith, within-small (u .shows) (u .good .within) .place)
-
-refused-requires-2 : tie.Need-refused-requires-2
-refused-requires-2 c κs = search needs
+add-t12 : tie.Need-add-t12
+add-t12 c = let u = c .before .before .before .before .before .before .pre .1 .1 .underway in omega (arith, within-small (u .shows) (u .good .within) .place)
 
 returns-2 : tie.Need-returns-2
 returns-2 c = λ s x i.
-    let told = c .before .before .before .before in
-    rw (c .refused2 .ensures)
-    (reads-tail _ _ _ _ _ _ _ x (i .nets) (i .is ∙ told .enum-told .given .1) (λ e. c .before .before .if1 .taken (after-end (c .before .before .before) ∙ e)))
-
-refused-requires-3 : tie.Need-refused-requires-3
-refused-requires-3 c κs = search needs
+    let over = c .before .before in
+    says-tail s (i .widths) _ _ _ x (i .underway) (i .is ∙ over .before .enum-told .given .1) (λ e. c .before .if1 .taken (after-end over ∙ e))
 
 returns-3 : tie.Need-returns-3
 returns-3 c = λ s x i.
-    let over = c .before .before .before .before in
-    rw (c .refused3 .ensures)
-    (reads-full _ _ _ _ _ _ _ x (i .nets) (i .is ∙ over .before .before .enum-told .given .1) (sym (after-end (over .before)) ∙ over .if1 .left) (c .before .if2 .taken))
+    let over = c .before .before .before in
+    says-full s (i .widths) _ _ _ x (i .underway) (i .is ∙ over .before .enum-told .given .1) (sym (after-end over) ∙ c .before .before .if1 .left) (c .if2 .taken)
 
 returns-4 : tie.Need-returns-4
 returns-4 c = λ s x i.
-    let over = c .before .before .before .before in
-    reads-taken _ _ _ _ _ _ _ x (i .nets) (i .is ∙ over .before .before .enum-told .given .1) (sym (after-end (over .before)) ∙ over .if1 .left) (c .before .if2 .left)
+    let over = c .before .before .before in
+    let end = i .is ∙ over .before .enum-told .given .1 in
+    (end, says-taken s (i .widths) _ _ _ x (i .underway) end (sym (after-end over) ∙ c .before .before .if1 .left) (c .if2 .left))
 
 pub ended-spec : {M : Type 1} → statement M
 ended-spec =
     tie.close
-    (tie.spec
-    enum-told
-    refusal-of-requires
-    refused-requires
-    returns
-    rest-requires
-    add-refused
-    refused-requires-2
-    returns-2
-    refused-requires-3
-    returns-3
-    returns-4)
+    (tie.spec enum-told refusal-of-requires returns rest-requires add-t12 returns-2 returns-3 returns-4)
