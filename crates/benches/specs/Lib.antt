@@ -11,3 +11,5 @@ pub mod LoadLaws
 pub mod StoreLaws
 pub mod BackLaws
 pub mod AgainLaws
+pub mod PositionLaws
+pub mod LegalLaws

@@ -10,9 +10,12 @@ use Rattle.rules.specs.Refusals.{refusal}
 use Rattle.rules.specs.Row.{Row}
 use Rattle.rules.specs.Reading.{Read, taken, refused, readRow}
 use Rattle.rules.specs.Length.{overlap, netlength}
-use Rattle.rules.specs.Calls.{Outcome, withRow, refuse, given, checkCall, measureCall, measured, sitesFrom}
+use Rattle.rules.specs.Sizes.{benchSize}
+use Rattle.rules.specs.Steps.{finished}
+use Rattle.rules.specs.Bench.{benchOf, inForm}
+use Rattle.rules.specs.Calls.{Outcome, withRow, refuse, given, checkCall, measureCall, measured, sitesFrom, sliceCall, sliced, placementCall, placed, positions}
 use Rattle.rules.specs.declared.Refusal.{Refusal}
-use Rattle.rules.specs.declared.Refusal.the-variants.{Room, Overlap}
+use Rattle.rules.specs.declared.Refusal.the-variants.{Room, WrongBench, Unfinished, Overlap}
 
 -- ---- check
 
@@ -58,3 +61,56 @@ module _ (row placement : List ℕ) (R : Row) (e : readRow row ≡ taken R) wher
           eq-eqb (overlap R (sitesFrom placement 0 (length (R .widths)))) (length (R .widths)) n,
         )
         refl
+
+-- ---- slice
+
+pub slice-refused : (row bench : List ℕ) (budget : ℕ) (q : Refusal) (place : ℕ) → readRow row ≡ refused q place
+    → sliceCall row bench budget ≡ refuse bench q place
+unfolding sliceCall
+slice-refused row bench budget q place e = rw e refl
+
+module _ (row bench : List ℕ) (budget : ℕ) (R : Row) (e : readRow row ≡ taken R) where
+  pub slice-room : (length bench ≡ benchSize → ⊥) → sliceCall row bench budget ≡ refuse bench Room 0
+  unfolding sliceCall
+  slice-room h = rw (e, ne-eqb (length bench) benchSize h) refl
+
+  module _ (h : length bench ≡ benchSize) where
+    pub slice-form : inForm R bench ≡ false → sliceCall row bench budget ≡ refuse bench WrongBench 0
+    unfolding sliceCall
+    slice-form f = rw (e, eq-eqb (length bench) benchSize h, f) refl
+
+    pub slice-done : inForm R bench ≡ true → sliceCall row bench budget ≡ sliced R budget (benchOf R bench)
+    unfolding sliceCall
+    slice-done f = rw (e, eq-eqb (length bench) benchSize h, f) refl
+
+-- ---- placement
+
+pub placement-refused : (row bench placement : List ℕ) (q : Refusal) (place : ℕ) → readRow row ≡ refused q place
+    → placementCall row bench placement ≡ refuse placement q place
+unfolding placementCall
+placement-refused row bench placement q place e = rw e refl
+
+module _ (row bench placement : List ℕ) (R : Row) (e : readRow row ≡ taken R) where
+  pub placement-bench-room : (length bench ≡ benchSize → ⊥) → placementCall row bench placement ≡ refuse placement Room 0
+  unfolding placementCall
+  placement-bench-room h = rw (e, ne-eqb (length bench) benchSize h) refl
+
+  module _ (h : length bench ≡ benchSize) where
+    pub placement-room : (length placement ≡ 4 * length (R .widths) → ⊥) → placementCall row bench placement ≡ refuse placement Room 0
+    unfolding placementCall
+    placement-room g = rw (e, eq-eqb (length bench) benchSize h, ne-eqb (length placement) (4 * length (R .widths)) g) refl
+
+    module _ (g : length placement ≡ 4 * length (R .widths)) where
+      pub placement-form : inForm R bench ≡ false → placementCall row bench placement ≡ refuse placement WrongBench 0
+      unfolding placementCall
+      placement-form f = rw (e, eq-eqb (length bench) benchSize h, eq-eqb (length placement) (4 * length (R .widths)) g, f) refl
+
+      module _ (f : inForm R bench ≡ true) where
+        pub placement-unfinished : finished R (benchOf R bench) ≡ false → placementCall row bench placement ≡ refuse placement Unfinished 0
+        unfolding placementCall
+        placement-unfinished d = rw (e, eq-eqb (length bench) benchSize h, eq-eqb (length placement) (4 * length (R .widths)) g, f, d) refl
+
+        pub placement-done : finished R (benchOf R bench) ≡ true
+            → placementCall row bench placement ≡ placed R (positions R (benchOf R bench))
+        unfolding placementCall
+        placement-done d = rw (e, eq-eqb (length bench) benchSize h, eq-eqb (length placement) (4 * length (R .widths)) g, f, d) refl

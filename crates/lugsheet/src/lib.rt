@@ -2,12 +2,14 @@
 // by the definitions of the crate `rules` (specs/Calls.antt). No call has a `requires`: no caller is trusted.
 
 ghost use mathlib.Core.Path.{_≡_};
-ghost use Prim.Native.Nat.{_≤_};
+ghost use Prim.Native.Nat.{_+_, _*_, _≤_};
 ghost use Rattle.rules.specs.Refusals.{refusal, number};
-ghost use Rattle.rules.specs.Calls.{checkCall, freshCall, measureCall};
+ghost use Rattle.rules.specs.Steps.{carriedBound};
+ghost use Rattle.rules.specs.Calls.{bit, checkCall, freshCall, sliceCall, placementCall, measureCall};
 use reading::Verdict;
 use rules::BENCH_SIZE;
 use rules::Refusal;
+use rules::Steps;
 
 // The number of a refusal in document 01's table.
 fn number_of(q: Refusal) -> u64
@@ -32,6 +34,14 @@ fn refused(q: Refusal, place: u32) -> u64
     ensures { λ r. ⌜ r ≡ refusal q place ⌝ }
 {
     9223372036854775808 + number_of(q) * 4294967296 + (place as u64)
+}
+
+// The bound on the changes that a run carries: 2m times the whole part of the logarithm of 2m, found from the bits of 2m.
+pub fn carried_bound(nets: u16) -> u64
+    ensures { λ r. ⌜ r ≡ carriedBound nets ⌝ }
+{
+    let changes = 2 * (nets as u32);
+    (changes as u64) * (numbers::whole_log(changes) as u64)
 }
 
 // The number of cells of a row.
@@ -78,8 +88,66 @@ pub extern "C" fn lugsheet_fresh(bench: &mut [u8]) -> u64
     if bench.len() != BENCH_SIZE {
         return refused(Refusal::Room, 0);
     }
-    numbers::clear(bench);
-    bench[0] = 66;
-    bench[1] = 78;
+    benches::store_fresh(bench);
     0
+}
+
+// What a slice answers: twice the steps taken, plus 1 if finished.
+fn sliced_answer(steps: Steps, finished: bool) -> u64
+    ensures { λ r. ⌜ r ≡ 2 * steps .0 + bit finished ⌝ }
+{
+    if finished {
+        return 2 * (steps.0 as u64) + 1;
+    }
+    2 * (steps.0 as u64)
+}
+
+// Takes at most `budget` steps on the lent bench.
+#[no_mangle]
+pub extern "C" fn lugsheet_slice(row: &[u8], bench: &mut [u8], budget: u32) -> u64
+    ensures answer { λ r. ⌜ r ≡ sliceCall (now (row .entry)) (now (bench .entry)) budget .answer ⌝ }
+    ensures buffer { λ _. ⌜ now (bench .exit) ≡ sliceCall (now (row .entry)) (now (bench .entry)) budget .buffer ⌝ }
+{
+    let h = reading::read_row(row);
+    let v = h.verdict;
+    if let Verdict::Refused(q) = v {
+        return refused(q, h.place);
+    }
+    if bench.len() != BENCH_SIZE {
+        return refused(Refusal::Room, 0);
+    }
+    let s = slicing::slice(h, bench, budget);
+    if !s.formed {
+        return refused(Refusal::WrongBench, 0);
+    }
+    let steps = s.steps;
+    sliced_answer(steps, s.finished)
+}
+
+// Writes the positions that a finished bench gives.
+#[no_mangle]
+pub extern "C" fn lugsheet_placement(row: &[u8], bench: &[u8], placement: &mut [u8]) -> u64
+    ensures answer { λ r. ⌜ r ≡ placementCall (now (row .entry)) (now (bench .entry)) (now (placement .entry)) .answer ⌝ }
+    ensures buffer { λ _. ⌜ now (placement .exit) ≡ placementCall (now (row .entry)) (now (bench .entry)) (now (placement .entry)) .buffer ⌝ }
+{
+    let h = reading::read_row(row);
+    let v = h.verdict;
+    if let Verdict::Refused(q) = v {
+        return refused(q, h.place);
+    }
+    if bench.len() != BENCH_SIZE {
+        return refused(Refusal::Room, 0);
+    }
+    let cells = h.cells;
+    if placement.len() != 4 * cells {
+        return refused(Refusal::Room, 0);
+    }
+    let p = placing::place(h, bench, placement);
+    if !p.formed {
+        return refused(Refusal::WrongBench, 0);
+    }
+    if !p.finished {
+        return refused(Refusal::Unfinished, 0);
+    }
+    p.length
 }

@@ -1,3 +1,4 @@
 pub mod Measures
 pub mod Overlaps
 pub mod Lengths
+pub mod HeldLaws

@@ -6,6 +6,9 @@ pub const WIDEST: u32 = 1_000_000;
 
 pub const MOST_CELLS: usize = 256;
 
+// A place before each cell, and one after the last.
+pub const ENDS: usize = 257;
+
 pub const MOST_NETS: usize = 512;
 
 pub const HEAVIEST: u32 = 1_000;

@@ -111,7 +111,7 @@ module _ (R : Row) where
 
   -- ---- from a fresh bench
 
-  fresh-ahead : ahead R fresh ≡ 3 * length (R .widths)
+  pub fresh-ahead : ahead R fresh ≡ 3 * length (R .widths)
   unfolding ahead fresh
   fresh-ahead = omega arith
 

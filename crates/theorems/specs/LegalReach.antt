@@ -18,7 +18,7 @@ use Rattle.theorems.specs.Reach.{rest, rest-none, rest-all, reach}
 abbrev pub reachesOf : ℕ → List ℕ → List ℕ → ℕ → ℕ
 reachesOf e ws ps i = getD ps i 0 + rest ws i + e
 
-no-truth : false ≡ true → ⊥
+pub no-truth : false ≡ true → ⊥
 no-truth e = let z : _≡_ {A = ℕ} 0 1 = cc in omega arith
 
 both-true : (x y : Bool) → (x && y) ≡ true → (x ≡ true) × (y ≡ true)

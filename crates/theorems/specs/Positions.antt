@@ -1,7 +1,7 @@
 -- The positions that a bench gives (document 01, "What the broker calls", placement): each cell of a settled clump has, at its position, the
 -- reach that the clump stands at.
-use mathlib.Core.Path.{_≡_, refl, ap, sym}
-use mathlib.Core.List.{List, [], _∷_, _++_, append-nil, append-assoc, reverse, reverse-cons}
+use mathlib.Core.Path.{_≡_, refl, ap}
+use mathlib.Core.List.{List, [], _∷_, _++_, reverse, reverse-cons}
 use Prim.Native.Nat.{ℕ, zero, suc, _+_, _-_, _≤_, _<_}
 use native.Mathlib.Nat.{add-zero}
 use native.Mathlib.Omega.{arith}
@@ -12,17 +12,12 @@ use Rattle.rules.specs.Reading.{total}
 use Rattle.rules.specs.Steps.{Clump}
 use Rattle.rules.specs.Calls.{packed, positionsIn}
 use Rattle.slopes.specs.Joined.{made-cells}
+use Rattle.benches.specs.PositionLaws.{packed-length, cellsAll, cells-snoc, positions-snoc}
 use Rattle.theory.specs.Order.{by-order}
 use Rattle.theorems.specs.Reach.{rest, reach}
 use Rattle.theorems.specs.Runs.{Stand, none, more}
 
 -- ---- cells side by side
-
-pub packed-length : (x k : ℕ) (ws : List ℕ) → k ≤ length ws → length (packed x k ws) ≡ k
-unfolding packed
-packed-length x zero ws h = refl
-packed-length x (suc k) [] h = absurd (omega arith)
-packed-length x (suc k) (w ∷ ws) h = ap suc (packed-length (x + w) k ws (omega arith))
 
 -- they share one reach
 pub packed-reach : (x k : ℕ) (ws : List ℕ) (i : ℕ) → i < k → k ≤ length ws → getD (packed x k ws) i 0 + rest ws i ≡ x + rest ws 0
@@ -32,28 +27,9 @@ packed-reach x (suc k) [] i h l = absurd (omega arith)
 packed-reach x (suc k) (w ∷ ws) zero h l = refl
 packed-reach x (suc k) (w ∷ ws) (suc i) h l = omega (arith, packed-reach (x + w) k ws i (omega arith) (omega arith))
 
-rest-drop : (a i : ℕ) (ws : List ℕ) → rest (drop a ws) i ≡ rest ws (a + i)
+pub rest-drop : (a i : ℕ) (ws : List ℕ) → rest (drop a ws) i ≡ rest ws (a + i)
 unfolding rest
 rest-drop a i ws = ap total (drop-drop i a ws)
-
--- ---- one clump more at the right
-
-unfoldable cellsAll : List Clump → ℕ
-cellsAll [] = 0
-cellsAll (c ∷ cs) = c .cells + cellsAll cs
-
-cells-snoc : (cs : List Clump) (d : Clump) → cellsAll (cs ++ (d ∷ [])) ≡ cellsAll cs + d .cells
-unfolding cellsAll
-cells-snoc [] d = omega arith
-cells-snoc (c ∷ cs) d = omega (arith, cells-snoc cs d)
-
-positions-snoc : (ws : List ℕ) (cs : List Clump) (d : Clump)
-    → positionsIn ws (cs ++ (d ∷ [])) ≡ positionsIn ws cs ++ packed (d .edge) (d .cells) (drop (cellsAll cs) ws)
-unfolding positionsIn cellsAll
-positions-snoc ws [] d = append-nil (packed (d .edge) (d .cells) ws)
-positions-snoc ws (c ∷ cs) d =
-    rw (positions-snoc (drop (c .cells) ws) cs d, drop-drop (cellsAll cs) (c .cells) ws)
-    (sym (append-assoc (packed (c .edge) (c .cells) ws) (positionsIn (drop (c .cells) ws) cs) (packed (d .edge) (d .cells) (drop (c .cells + cellsAll cs) ws))))
 
 -- ---- the cells below k, in clumps that stand by u
 

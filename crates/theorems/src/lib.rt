@@ -1,1 +1,1 @@
-// What a run of the published steps ends with and what it costs, as theorems about the written definitions. No code: all is in specs/.
+// The three demands as theorems about the written definitions: specs/Demands.antt, in the words of specs/Terms.antt. No code: all is in specs/.

@@ -1,19 +1,13 @@
 -- `lugsheet_fresh` meets its promise: 7 and the buffer untouched at another length, else every byte of a fresh bench.
-use Prim.Native.Nat.{ℕ}
-use mathlib.Core.Path.{_≡_, ap, _∙_, refl}
-use mathlib.Core.List.{List}
-use lib.ListN.{set, replicate}
+use mathlib.Core.Path.{_≡_, refl, ap, sym, _∙_}
+use lib.ListN.{length}
+use Rattle.rules.specs.Sizes.{benchSize}
+use Rattle.rules.specs.Bench.{fresh, benchBytes, clumpsOf, parts, padded}
 use borrow.Author.Needs.{needs}
 use borrow.Author.Tests.{eq-eqb, ne-eqb}
-use Rattle.rules.specs.Bench.{fresh, benchBytes, clumpsOf, parts, padded}
 use Rattle.rules.specs.Calls.{freshCall}
 use Rattle.lugsheet.proofs.lugsheet_fresh.Statement.{statement}
 use Rattle.lugsheet.proofs.lugsheet_fresh.Tie as tie
-
--- a cleared buffer with the mark is a fresh bench
-marked : set (set (replicate 1547 0) 0 66) 1 78 ≡ benchBytes fresh
-unfolding benchBytes fresh clumpsOf parts padded
-marked = refl
 
 refused-requires : tie.Need-refused-requires
 refused-requires c κs = search needs
@@ -22,33 +16,19 @@ returns : tie.Need-returns
 unfolding freshCall
 returns c = simp (ne-eqb _ _ (c .before .if1 .taken)) (c .refused .ensures, refl)
 
-clear-requires : tie.Need-clear-requires
-clear-requires c κs = search needs
+store-fresh-requires : tie.Need-store-fresh-requires
+store-fresh-requires c κs = search needs
 
-slice-write-bench : tie.Need-slice-write-bench
-slice-write-bench c = search needs
-
-slice-write-bench-2 : tie.Need-slice-write-bench-2
-slice-write-bench-2 c = search needs
+fresh-length : length (benchBytes fresh) ≡ benchSize
+unfolding benchBytes fresh clumpsOf parts padded
+fresh-length = refl
 
 same-length : tie.Need-same-length
-same-length c = search needs
+same-length c = ap length (c .before .before .store-fresh .ensures) ∙ fresh-length ∙ sym (c .before .before .before .before .if1 .left)
 
 returns-2 : tie.Need-returns-2
 unfolding freshCall
-returns-2 c =
-    let e = c .before .before .before .before .if1 .left in
-    simp (eq-eqb _ _ e)
-    (refl, ap (λ (l : List ℕ). set (set l 0 66) 1 78) (c .before .before .clear .ensures ∙ ap (λ (n : ℕ). replicate n 0) e) ∙ marked)
+returns-2 c = simp (eq-eqb _ _ (c .before .before .before .before .if1 .left)) (refl, c .before .before .store-fresh .ensures)
 
 pub lugsheet-fresh-spec : {M : Type 1} → statement M
-lugsheet-fresh-spec =
-    tie.close
-    (tie.spec
-    refused-requires
-    returns
-    clear-requires
-    slice-write-bench
-    slice-write-bench-2
-    same-length
-    returns-2)
+lugsheet-fresh-spec = tie.close (tie.spec refused-requires returns store-fresh-requires same-length returns-2)

@@ -15,7 +15,8 @@ use Rattle.reading.specs.Reads.{Holds}
 use Rattle.reading.specs.ReadsLaws.{said-refused, said-taken}
 use Rattle.measuring.specs.Measures.{Widths, Measurable}
 use Rattle.lugsheet.specs.CallLaws.{measure-refused, measure-room, measure-overlap, measure-done}
-use Rattle.lugsheet.specs.Measured.{overlap-most, measurable, measured-length}
+use Rattle.measuring.specs.HeldLaws.{measurable, measured-length}
+use Rattle.lugsheet.specs.Measured.{overlap-most, sites-legal}
 use Rattle.lugsheet.proofs.lugsheet_measure.Statement.{statement}
 use Rattle.lugsheet.proofs.lugsheet_measure.Tie as tie
 use Rattle.lugsheet.proofs.lugsheet_measure.Reads as reads
@@ -106,7 +107,7 @@ no-overlap c =
 netlength-requires : tie.Need-netlength-requires
 netlength-requires c κs =
     let t = the-row (c .before .before .before .before .before .before) in
-    (t .0 .widths, measurable (c .before .before .before .before .before .before .before .before .read-row .result) (t .0) (t .1 .1) (c .before .before .before .before .before .before .before .before .before .before .before .args .placement .now) (right-length (c .before .before)) (no-overlap (c .before)))
+    (t .0 .widths, measurable (c .before .before .before .before .before .before .before .before .read-row .result) (t .0) (t .1 .1) (c .before .before .before .before .before .before .before .before .before .before .before .args .placement .now) (right-length (c .before .before)) (sites-legal (t .0) (c .before .before .before .before .before .before .before .before .before .before .before .args .placement .now) (no-overlap (c .before))))
 
 returns-4 : tie.Need-returns-4
 returns-4 c =
@@ -115,8 +116,8 @@ returns-4 c =
     let a = c .before .before .before .before .before .before .before .before .before .before .before .before .args in
     let l = right-length (c .before .before .before) in
     let n = no-overlap (c .before .before) in
-    c .netlength .ensures (t .0 .widths) (measurable h (t .0) (t .1 .1) (a .placement .now) l n)
-    ∙ measured-length h (t .0) (t .1 .1) (a .placement .now) l n
+    c .netlength .ensures (t .0 .widths) (measurable h (t .0) (t .1 .1) (a .placement .now) l (sites-legal (t .0) (a .placement .now) n))
+    ∙ measured-length h (t .0) (t .1 .1) (a .placement .now) l (sites-legal (t .0) (a .placement .now) n)
     ∙ sym (measure-done (a .row .now) (a .placement .now) (t .0) (t .1 .0) l n)
 
 pub lugsheet-measure-spec : {M : Type 1} → statement M

@@ -1,0 +1,104 @@
+// Placement (document 01, "What the broker calls"): the positions of a finished bench as bytes, and their netlength, for a row that was read.
+// A bench that is not in form or not finished leaves every byte of the placement as it is.
+ghost use mathlib.Core.Path.{_≡_};
+ghost use mathlib.Core.Bool.{not, _&&_};
+ghost use mathlib.Core.List.{List};
+ghost use Prim.Native.Nat.{ℕ, _-_, _*_};
+ghost use lib.Dec.{leb};
+ghost use lib.ListN.{length, drop};
+ghost use Rattle.rules.specs.Sizes.{benchSize};
+ghost use Rattle.rules.specs.Row.{Row};
+ghost use Rattle.rules.specs.Bench.{benchOf};
+ghost use Rattle.rules.specs.Calls.{packed, positions, siteBytes};
+ghost use Rattle.reading.specs.Reads.{Holds};
+ghost use Rattle.placing.specs.Sites.{over};
+ghost use Rattle.placing.specs.Puts.{Fits, Ready};
+ghost use Rattle.placing.specs.PlacedAs.{PlacedAs};
+use benches::Saved;
+use reading::Sheet;
+use rules::MOST_CELLS;
+
+// Is the bench in form, is it finished, and if both, how long is the netlength?
+pub struct Placed {
+    pub formed: bool,
+    pub finished: bool,
+    pub length: u64,
+}
+
+fn wide(x: u16) -> usize
+    ensures { λ r. ⌜ r ≡ x ⌝ }
+{
+    x as usize
+}
+
+// Nothing in hand, all cells opened.
+fn is_finished(held: bool, opened: usize, cells: usize) -> bool
+    ensures { λ r. ⌜ r ≡ (not held && leb cells opened) ⌝ }
+{
+    if held {
+        return false;
+    }
+    cells <= opened
+}
+
+// The cells of one clump, side by side from its edge.
+fn put_clump(widths: &[u32; MOST_CELLS], placement: &mut [u8], first: usize, end: usize, edge: u32)
+    requires { ⌜ Fits (now widths) (now placement) first end edge ⌝ }
+    ensures { λ _. ⌜ now (placement .exit) ≡ over (now (placement .entry)) first (packed edge (end - first) (drop first (now (widths .entry)))) ⌝ }
+{
+    let mut x = edge;
+    let mut i = first;
+    while i < end {
+        numbers::put_u32(placement, 4 * i, x);
+        x += widths[i];
+        i += 1;
+    }
+}
+
+// The clumps of a finished bench, from left to right.
+fn put_clumps(saved: Saved, widths: &[u32; MOST_CELLS], placement: &mut [u8])
+    requires { ⌜ ((R : Row) × ((s : List ℕ) × Ready R s saved (now widths) (now placement))) ⌝ }
+    ensures { λ _. ⌜ ((R : Row) (s : List ℕ) → Ready R s saved (now (widths .entry)) (now (placement .entry)) → now (placement .exit) ≡ siteBytes (positions R (benchOf R s))) ⌝ }
+{
+    let clumps = saved.clumps;
+    let mut first: usize = 0;
+    let mut k: usize = 0;
+    while k < clumps {
+        let end = first + wide(saved.cells[k]);
+        put_clump(widths, placement, first, end, saved.edges[k]);
+        first = end;
+        k += 1;
+    }
+}
+
+// The positions that a bench gives, for a row that was read.
+pub fn place(h: Sheet, bench: &[u8], placement: &mut [u8]) -> Placed
+    requires { ⌜ (length (now bench) ≡ benchSize) × ((R : Row) × (Holds h R × (length (now placement) ≡ 4 * length (R .widths)))) ⌝ }
+    ensures { λ r. ⌜ ((R : Row) → Holds h R → PlacedAs R (now (bench .entry)) (now (placement .entry)) (now (placement .exit)) r) ⌝ }
+{
+    let cells = h.cells;
+    let before = layout::places(&h.widths, cells);
+    let saved = benches::load(bench, h.width, cells, &before);
+    if !saved.formed {
+        return Placed {
+            formed: false,
+            finished: false,
+            length: 0,
+        };
+    }
+    if !is_finished(saved.held, saved.opened, cells) {
+        return Placed {
+            formed: true,
+            finished: false,
+            length: 0,
+        };
+    }
+    put_clumps(saved, &h.widths, placement);
+    let net = h.net;
+    let length = measuring::netlength(net, h.nets, placement);
+    Placed {
+        formed: true,
+        finished: true,
+        length: length,
+    }
+}

@@ -1,0 +1,31 @@
+-- What a slice starts from: the engine's numbers by the numbers that were saved, and the lists in which the row's changes are laid out.
+use Prim.Native.Nat.{ℕ, _-_}
+use mathlib.Core.Path.{_≡_}
+use mathlib.Core.Bool.{Bool, true, false, cond}
+use mathlib.Core.List.{List, []}
+use lib.ListN.{length, getD}
+use lib.IntN.{ℤ}
+use Rattle.rules.specs.Row.{Row}
+use Rattle.rules.specs.Bench.{inForm}
+use Rattle.rules.specs.declared.Carried.{Carried}
+use Rattle.benches.specs.declared.Saved.{Saved}
+use Rattle.benches.specs.Saved.{Tells}
+use Rattle.engine.specs.declared.Bench.{Bench}
+use Rattle.engine.specs.Laid.{Laid}
+use Rattle.engine.specs.Stands.{Sorted}
+
+-- nothing in hand: all clumps are settled; else the last one is in hand, and its cells are the last that were opened
+abbrev pub begun : ℕ → Bool → ℕ → Carried → List ℕ → Bench
+begun opened held clumps carried cells =
+    cond held
+    (record { opened = opened; held = true; first = opened - getD cells (clumps - 1) 0; settled = clumps - 1; carried = carried })
+    (record { opened = opened; held = false; first = opened; settled = clumps; carried = carried })
+
+-- the saved bytes s are in form and told, and the row is laid out, each cell's changes by themselves
+pub record Begins (R : Row) (s : List ℕ) (saved : Saved) (width count : ℕ) (places held : List ℕ) (needs xs ws : List ℤ) : Type 0 where
+  pub wide : width ≡ R .width
+  pub many : count ≡ length (R .widths)
+  pub form : inForm R s ≡ true
+  pub tells : Tells s saved
+  pub laid : Laid R places held needs
+  pub apiece : Sorted R xs ws []

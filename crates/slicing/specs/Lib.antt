@@ -1,0 +1,5 @@
+pub mod Sliced
+pub mod Begun
+pub mod LaidLaws
+pub mod BegunLaws
+pub mod WrittenLaws
