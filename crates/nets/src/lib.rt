@@ -15,12 +15,13 @@ ghost use Rattle.nets.specs.Turns.{leftBy, rightBy, bothBy, fixedBy, anc
 ghost use Rattle.nets.specs.Span.{lowAt, highAt, spanAt, Near};
 use rules::Weight;
 
-// `left` and `right` are the cells L and R, `onleft` and `onright` the offsets on them; `fl` and `fr` are the fixed pins.
+// `left` and `right` are the cells L and R, `onleft` and `onright` the offsets on them; `fl` and `fr` are the fixed pins. The two short
+// numbers stand side by side: without gaps in memory, 512 of these are cleared at one stroke.
 pub struct Net {
     pub weight: Weight,
     pub left: u16,
-    pub onleft: u32,
     pub right: u16,
+    pub onleft: u32,
     pub onright: u32,
     pub fl: i32,
     pub fr: i32,
