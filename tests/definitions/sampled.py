@@ -122,6 +122,7 @@ def changed(r, table, kind):
 
 def main():
     ask = argparse.ArgumentParser(description=__doc__)
+    ask.error = lambda fault: ask.exit(2, f'sampled: {fault}\n')
     ask.add_argument('--seed', type=int, default=1)
     ask.add_argument('--rows', type=int, default=40)
     ask.add_argument('--damaged', type=int, default=40)

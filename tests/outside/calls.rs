@@ -1,8 +1,9 @@
-//! The library's five calls, made through `broker`, a C program that fences every lent buffer and lies beside these tests.
-//! Which calls are linked was said when it was built.
+//! The library's five calls, made through `broker`, a C program that fences every lent buffer and lies beside these tests, or
+//! through `broker-valgrind`. Which calls are linked was said when it was built.
 
 use std::io::{Read, Write};
 use std::process::{Child, Command, Stdio};
+use std::sync::atomic::{AtomicBool, Ordering};
 use std::sync::{Mutex, OnceLock};
 
 /// What a call answered, what the buffer that it may write holds now, and what it did that it may not.
@@ -16,18 +17,22 @@ pub const NAMES: [&str; 5] = ["fresh", "check", "measure", "slice", "placement"]
 
 const TRESPASSES: [Option<&str>; 3] =
     [None, Some("bytes beside a lent buffer were written"), Some("a buffer lent for reading was written")];
-const LOST: &str = "the call did not return: it reached memory that is not lent, or took too long";
+const LOST: &str = "the call did not return: it reached memory that is not lent or was never written, or took too long";
 
 struct Broker {
     child: Mutex<Child>,
     linked: [u8; 5],
 }
 
+/// To be set before the first call.
+pub static UNDER_VALGRIND: AtomicBool = AtomicBool::new(false);
+
 fn broker() -> &'static Broker {
     static BROKER: OnceLock<Broker> = OnceLock::new();
     BROKER.get_or_init(|| {
         let own = std::env::current_exe().expect("the folder of this program is known");
-        let mut command = Command::new(own.with_file_name("broker"));
+        let name = if UNDER_VALGRIND.load(Ordering::Relaxed) { "broker-valgrind" } else { "broker" };
+        let mut command = Command::new(own.with_file_name(name));
         let mut child = command.stdin(Stdio::piped()).stdout(Stdio::piped()).spawn().expect("broker lies beside this program");
         let mut linked = [0; 5];
         child.stdout.as_mut().expect("a pipe").read_exact(&mut linked).expect("broker says what is linked");

@@ -11,12 +11,12 @@ mod suites;
 
 use std::io::Write;
 use std::process::exit;
+use std::sync::atomic::Ordering;
 use suites::{Suite, SUITES};
 
-const USAGE: &str = "outside-tests [--seed S] [--cases N] [SUITE...]
-  suites: worked damaged small medium benches measured (all, if none is named)
-  --seed S   another sequence of cases (default 1)
-  --cases N  so many cases in each large suite (default 24000); medium has 15 for each thousand";
+/// Without words: seed 1, 24,000 cases in each large suite (medium has 15 for each thousand), all suites.
+const USAGE: &str =
+    "use: outside-tests [--seed S] [--cases N] [--valgrind] [SUITE...], a suite being worked, damaged, small, medium, benches or measured";
 
 struct Asked {
     seed: u64,
@@ -37,6 +37,7 @@ fn asked() -> Asked {
         match word.as_str() {
             "--seed" => asked.seed = number(),
             "--cases" => asked.cases = number() as usize,
+            "--valgrind" => calls::UNDER_VALGRIND.store(true, Ordering::Relaxed),
             name if SUITES.iter().any(|suite| suite.name == name) => asked.suites.push(word),
             _ => usage(),
         }
@@ -72,7 +73,8 @@ fn run(suite: &Suite, asked: &Asked) -> usize {
 fn main() {
     let asked = asked();
     let (linked, missing): (Vec<&str>, Vec<&str>) = calls::NAMES.iter().partition(|name| calls::linked(name));
-    println!("calls linked: {}", linked.join(" "));
+    let under = if calls::UNDER_VALGRIND.load(Ordering::Relaxed) { ", under valgrind" } else { "" };
+    println!("calls linked: {}{under}", linked.join(" "));
     if !missing.is_empty() {
         println!("calls not linked, and left out of every suite: {}", missing.join(" "));
     }
