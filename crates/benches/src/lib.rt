@@ -86,19 +86,18 @@ fn head_fits(bench: &[u8], count: usize) -> bool
     counts_fit(count, opened, wide(bench[4]), clumps, carried)
 }
 
-// Are all bytes from a place on 0?
+// Are all bytes from a place on 0? Their sum tells, without a test at each.
 fn zero_from(bench: &[u8], from: usize) -> bool
-    requires { ⌜ from ≤ length (now bench) ⌝ }
+    requires { ⌜ (length (now bench) ≡ benchSize) × (from ≤ length (now bench)) ⌝ }
     ensures { λ r. ⌜ r ≡ allZero (drop from (now (bench .entry))) ⌝ }
 {
+    let mut sum: u32 = 0;
     let mut i = from;
     while i < bench.len() {
-        if bench[i] != 0 {
-            return false;
-        }
+        sum += bench[i] as u32;
         i += 1;
     }
-    true
+    sum == 0
 }
 
 // Does a clump at `edge` end by `limit`, where the cells left of it are `from` wide and with its own they are `to`? In 64 bits nothing wraps.

@@ -1,8 +1,7 @@
 -- The best interval of a part, by its changes alone (document 01, "Slope changes"). Each change, of either sign, raises the slope by its size as
 -- y passes it. So with `need`, the sum of the sizes of the negative ones, l is where the sizes passed first reach the need, and r where they first
 -- exceed it, both within the limits.
-use Prim.Native.Nat.{ℕ, zero, suc, _+_, _-_, _≤_, _<_}
-use mathlib.Core.Path.{_≡_}
+use Prim.Native.Nat.{ℕ, _≤_, _<_}
 use mathlib.Core.Bool.{cond}
 use mathlib.Core.List.{List}
 use lib.IntN.{ℤ, pos, natAbs}
@@ -21,12 +20,10 @@ sizeUpTo v x w = pos (cond (leZ x v) (natAbs w) 0)
 abbrev pub sizesUpTo : List ℤ → List ℤ → ℕ → ℕ → ℤ → ℤ
 sizesUpTo xs ws first end v = tally (sizeUpTo v) xs ws first end
 
--- x is, within low..high, where the sizes first reach the need; high where they don't
-pub record Reaches (xs ws : List ℤ) (first end : ℕ) (need low high x : ℤ) : Type 0 where
-  pub from-low : low ≤ℤ x
-  pub to-high : x ≤ℤ high
-  pub short : (v : ℤ) → low ≤ℤ v → v <ℤ x → sizesUpTo xs ws first end v <ℤ need
-  pub enough : x <ℤ high → need ≤ℤ sizesUpTo xs ws first end x
+-- as far as the sizes are known, up to cap: x is where they first reach the need, or high where they don't
+pub record ReachesWithin (xs ws : List ℤ) (first end : ℕ) (need low high cap x : ℤ) : Type 0 where
+  pub short : (v : ℤ) → low ≤ℤ v → v <ℤ x → v ≤ℤ cap → sizesUpTo xs ws first end v <ℤ need
+  pub enough : x <ℤ high → x ≤ℤ cap → need ≤ℤ sizesUpTo xs ws first end x
 
 -- left and right are, within low..high, where the sizes first reach and first exceed the need
 pub record BestEnds (xs ws : List ℤ) (first end : ℕ) (need low high left right : ℤ) : Type 0 where
@@ -37,23 +34,6 @@ pub record BestEnds (xs ws : List ℤ) (first end : ℕ) (need low high left rig
   pub left-enough : left <ℤ high → need ≤ℤ sizesUpTo xs ws first end left
   pub right-short : (v : ℤ) → low ≤ℤ v → v <ℤ right → sizesUpTo xs ws first end v ≤ℤ need
   pub right-enough : right <ℤ high → need <ℤ sizesUpTo xs ws first end right
-
--- the sizes of n changes from place `first` on
-unfoldable pub sizes : List ℤ → ℕ → ℕ → ℕ
-sizes ws first zero = 0
-sizes ws first (suc n) = sizes ws first n + natAbs (ith ws (first + n))
-
--- a walk from `first` on has come to `place`: it has passed that sum, and before that place the sum was short of the need
-pub record Walked (ws : List ℤ) (first end place : ℕ) (sum need : ℤ) : Type 0 where
-  pub low : first ≤ place
-  pub high : place ≤ end
-  pub passed : sum ≡ pos (sizes ws first (place - first))
-  pub short : (k : ℕ) → first ≤ k → k < place → pos (sizes ws first (k - first)) <ℤ need
-
--- it has stopped there: before the end only where the need is reached
-pub record Stopped (ws : List ℤ) (first end place : ℕ) (sum need : ℤ) : Type 0 where
-  pub walked : Walked ws first end place sum need
-  pub stops : place < end → need ≤ℤ sum
 
 -- x moved into low..high
 pub record Clipped (low high x r : ℤ) : Type 0 where

@@ -1,36 +1,26 @@
 -- The best interval of a clump made of the row's cells, found in the part that its changes are, is that of the definitions.
-use Prim.Native.Nat.{ℕ, _+_, _-_, _*_, _≤_, _<_}
-use mathlib.Core.Path.{_≡_, refl, ap, sym, subst, _∙_}
-use mathlib.Core.Bool.{Bool, true, false, cond}
-use mathlib.Core.List.{List, [], _∷_}
+use Prim.Native.Nat.{ℕ, _+_, _-_, _≤_}
+use mathlib.Core.Path.{_≡_, ap, sym}
+use mathlib.Core.List.{List}
 use native.Mathlib.Omega.{arith}
-use lib.ListN.{length, getD}
-use lib.Dec.{eqb}
-use borrow.Author.Tests.{eq-eqb, ne-eqb}
 use lib.IntN.{ℤ, pos, _+ℤ_, _-ℤ_}
-use lib.Signed.{_≤ℤ_, _<ℤ_}
-use Rattle.numbers.specs.Signed.{above, below}
 use Rattle.numbers.specs.SignedLaws.{eq-parts, sub-parts, parts-le, parts-lt, ≤ℤ-trans}
-use Rattle.rules.specs.Sizes.{heaviest}
 use Rattle.rules.specs.Row.{Row}
-use Rattle.rules.specs.Steps.{Clump, Hand, empty, holding, Bench as Meant, moved, endOf, leftOf, rightOf}
+use Rattle.rules.specs.Steps.{Clump, moved, leftOf, rightOf}
 use Rattle.rules.specs.Changes.{Change}
 use Rattle.slopes.specs.Tally.{tallyOf, Same}
 use Rattle.slopes.specs.Sizes.{sizesTo, need}
-use Rattle.slopes.specs.Frame.{packed, packed-most, framed, best-left-moved, best-right-moved}
-use Rattle.slopes.specs.Forgotten.{cellsIn, MadeAt, allClumps, Proper}
-use Rattle.changes.specs.Parts.{mostChanges, Rising}
-use Rattle.changes.specs.Ends.{Weighed, sizesUpTo, BestEnds}
-use Rattle.engine.specs.Holds.{Holds, holds-sizes, need-most}
-use Rattle.engine.specs.Laid.{heldBefore, needBefore, held-rises, held-most, need-add, Laid}
-use Rattle.engine.specs.Stands.{Part, Sorted, Numbers, Stands}
-use Rattle.engine.specs.Taken.{lastOf, firstOfLast, endOfLast}
-use Rattle.engine.specs.declared.Bench.{Bench}
+use Rattle.slopes.specs.Frame.{packed, framed, best-left-moved, best-right-moved}
+use Rattle.slopes.specs.Forgotten.{MadeAt}
+use Rattle.changes.specs.Ends.{sizesUpTo, BestEnds}
+use Rattle.engine.specs.Holds.{Holds, holds-sizes}
+use Rattle.engine.specs.Laid.{heldBefore}
 use Rattle.engine.proofs.ClumpLaws.{clump-width, clump-framed}
 
 -- ---- the best interval, by the changes of cells `a` and after, as many as the clump c has
 
-module _ (R : Row) (a : ℕ) (c : Clump) (m : MadeAt R a c) (fits : packed R (a + c .cells) ≤ R .width) (xs ws : List ℤ) (part : Part R xs ws a (c .cells)) where
+module _ (R : Row) (a : ℕ) (c : Clump) (m : MadeAt R a c) (fits : packed R (a + c .cells) ≤ R .width) (xs ws : List ℤ)
+    (holds : Holds xs ws (heldBefore R a) (heldBefore R (a + c .cells)) (framed R a (c .cells))) where
   abbrev from : ℕ
   from = heldBefore R a
 
@@ -49,7 +39,7 @@ module _ (R : Row) (a : ℕ) (c : Clump) (m : MadeAt R a c) (fits : packed R (a 
       (omega (arith, clump-width R a c m, sub-parts (pos (R .width - c .width)) (pos (packed R a)), sub-parts (pos (R .width)) (pos (packed R (a + c .cells)))))
 
   sizes : (v : ℤ) → sizesUpTo xs ws from to v ≡ pos (sizesTo list v)
-  sizes = holds-sizes xs ws from to list (part .holds)
+  sizes = holds-sizes xs ws from to list holds
 
   module _ (left right : ℤ)
       (ends : BestEnds xs ws from to (pos (need list)) (pos 0 -ℤ pos (packed R a)) (pos (R .width) -ℤ pos (packed R (a + c .cells))) left right) where

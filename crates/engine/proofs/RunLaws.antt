@@ -1,7 +1,7 @@
 -- A run, one step after another: when it is finished, and what one step more makes of the run so far.
 use Prim.Native.Nat.{ℕ, _+_}
-use mathlib.Core.Path.{_≡_, refl, ap, _∙_}
-use mathlib.Core.Bool.{Bool, true, false, not, _&&_}
+use mathlib.Core.Path.{_≡_, refl, _∙_}
+use mathlib.Core.Bool.{false, not, _&&_}
 use mathlib.Core.List.{List}
 use native.Mathlib.Omega.{arith}
 use lib.ListN.{length}
@@ -10,7 +10,7 @@ use lib.IntN.{ℤ}
 use Rattle.rules.specs.Row.{Row}
 use Rattle.rules.specs.Steps.{Hand, empty, holding, Bench as Meant, finishedBy, finished, step, run, stepsTaken}
 use Rattle.slopes.specs.Runs.{run-zero, taken-zero, run-more, taken-more, run-add, taken-add}
-use Rattle.engine.specs.Stands.{inHand, Stands}
+use Rattle.engine.specs.Stands.{Lists, inHand, Stands}
 use Rattle.engine.specs.declared.Bench.{Bench}
 
 -- the test that the engine makes
@@ -19,10 +19,10 @@ unfolding finishedBy
 finished-by R opened empty = refl
 finished-by R opened (holding c) = refl
 
-pub finished-is : (R : Row) (count : ℕ) (e : Bench) (cells edges : List ℕ) (xs ws : List ℤ) (b : Meant) → count ≡ length (R .widths)
-    → Stands R e cells edges xs ws b → not (e .held) && leb count (e .opened) ≡ finished R b
+pub finished-is : (R : Row) (count : ℕ) (e : Bench) (cells edges : List ℕ) (ls : Lists) (xs ws : List ℤ) (b : Meant) → count ≡ length (R .widths)
+    → Stands R e cells edges ls xs ws b → not (e .held) && leb count (e .opened) ≡ finished R b
 unfolding finished
-finished-is R count e cells edges xs ws b n s = rw (n, s .numbers .held-is, s .numbers .opened-is) (finished-by R (b .opened) (b .hand))
+finished-is R count e cells edges ls xs ws b n s = rw (n, s .numbers .held-is, s .numbers .opened-is) (finished-by R (b .opened) (b .hand))
 
 pub run-next : (R : Row) (k : ℕ) (b : Meant) → finished R (run R k b) ≡ false → run R (k + 1) b ≡ step R (run R k b)
 run-next R k b f = run-add R k 1 b ∙ run-more R 0 (run R k b) f ∙ run-zero R (step R (run R k b))

@@ -10,32 +10,41 @@ use mir.Val.{SFits}
 use Rattle.rules.specs.Sizes.{widest, mostCells, heaviest}
 use Rattle.rules.specs.Row.{Row}
 use Rattle.rules.specs.Steps.{Clump, holding, Bench as Meant, leftOf, rightOf}
-use Rattle.changes.specs.Parts.{mostChanges, Rising}
+use Rattle.changes.specs.Parts.{mostChanges}
 use Rattle.changes.specs.Ends.{Weighed}
+use Rattle.changes.specs.Ordered.{Ordered}
 use Rattle.engine.specs.Laid.{Laid}
-use Rattle.engine.specs.Stands.{Stands}
+use Rattle.engine.specs.Stands.{Lists, Stands}
 use Rattle.engine.specs.declared.Bench.{Bench}
 
 -- what the changes of the clump in hand need
 abbrev pub needOfHand : Bench → List ℤ → ℤ
 needOfHand e needs = getD needs (e .opened) (pos 0) -ℤ getD needs (e .first) (pos 0)
 
--- the clump in hand is a sorted part, and lies packed within the row
-pub record Spans (e : Bench) (width : ℕ) (places held : List ℕ) (needs xs ws : List ℤ) : Type 0 where
+-- the clump in hand has a part in order, and lies packed within the row
+pub record Spans (e : Bench) (width : ℕ) (places : List ℕ) (needs xs ws : List ℤ) : Type 0 where
   pub cells-most : e .opened ≤ mostCells
   pub ordered : e .first ≤ e .opened
-  pub held-ordered : getD held (e .first) 0 ≤ getD held (e .opened) 0
-  pub held-most : getD held (e .opened) 0 ≤ mostChanges
-  pub rising : Rising xs (getD held (e .first) 0) (getD held (e .opened) 0)
-  pub weighed : Weighed ws (getD held (e .first) 0) (getD held (e .opened) 0)
+  pub hand-most : e .hand .end ≤ mostChanges
+  pub hand-ordered : Ordered xs ws (e .hand)
+  pub hand-low : e .hand .low ≡ pos 0 -ℤ pos (getD places (e .first) 0)
+  pub weighed : Weighed ws (e .hand .first) (e .hand .end)
   pub places-ordered : getD places (e .first) 0 ≤ getD places (e .opened) 0
   pub places-most : getD places (e .opened) 0 ≤ width
   pub width-most : width ≤ widest
   pub need-fits : SFits w64 (needOfHand e needs)
   pub need-most : needOfHand e needs ≤ℤ pos (mostChanges * heaviest)
 
--- left and right are l and r of the clump in hand, whatever row and bench the lists stand for
-abbrev pub IsBest : Bench → ℕ → List ℕ → List ℕ → List ℤ → List ℤ → List ℤ → ℕ → ℕ → Type 0
-IsBest e width places held needs xs ws left right =
-    (R : Row) (b : Meant) (c : Clump) (cells edges : List ℕ) → width ≡ R .width → Laid R places held needs → Stands R e cells edges xs ws b
-    → b .hand ≡ holding c → (left ≡ leftOf R c) × (right ≡ rightOf R c)
+-- left and right are l and r of the clump in hand, if there is one
+abbrev pub FoundIn : Row → Meant → ℕ → ℕ → Type 0
+FoundIn R b left right = (c : Clump) → b .hand ≡ holding c → (left ≡ leftOf R c) × (right ≡ rightOf R c)
+
+-- they are, whatever row and bench the lists stand for
+abbrev pub IsBest : Bench → ℕ → List ℕ → List ℤ → List ℤ → List ℤ → ℕ → ℕ → Type 0
+IsBest e width places needs xs ws left right =
+    (R : Row) (b : Meant) (held cells edges : List ℕ) (ls : Lists) → width ≡ R .width → Laid R places held needs → Stands R e cells edges ls xs ws b
+    → FoundIn R b left right
+
+-- the right end lies where the clump's changes are in order
+abbrev pub Capped : Bench → List ℕ → ℕ → Type 0
+Capped e places right = (pos right -ℤ pos (getD places (e .first) 0)) ≤ℤ e .hand .cap

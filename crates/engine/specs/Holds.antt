@@ -2,9 +2,9 @@
 -- the list. What that says of the sizes and the need that a best interval rests on.
 use Prim.Native.Nat.{ℕ, zero, suc, _+_, _-_, _*_, _≤_, _<_}
 use mathlib.Core.Path.{_≡_, refl, ap, sym, _∙_}
-use mathlib.Core.List.{List, [], _∷_, _++_}
+use mathlib.Core.List.{List, [], _++_}
 use native.Mathlib.Omega.{arith}
-use lib.IntN.{ℤ, pos, natAbs, _+ℤ_}
+use lib.IntN.{ℤ, pos}
 use Rattle.numbers.specs.Signed.{above, below}
 use Rattle.numbers.specs.SignedLaws.{abs-parts}
 use Rattle.rules.specs.Sizes.{heaviest}
@@ -12,8 +12,8 @@ use Rattle.rules.specs.Changes.{Change}
 use Rattle.slopes.specs.Tally.{tallyOf, tally-append}
 use Rattle.slopes.specs.Joined.{sumTo as natTo}
 use Rattle.slopes.specs.Sizes.{sizeTo, sizesTo, needOf, need}
-use Rattle.changes.specs.Parts.{ith, sumTo, tally, Arranged}
-use Rattle.changes.specs.PartLaws.{tally-none, tally-split, tally-ext, sumTo-more}
+use Rattle.changes.specs.Parts.{ith, sumTo, tally, Kept}
+use Rattle.changes.specs.PartLaws.{tally-none, tally-split, tally-ext}
 use Rattle.changes.specs.Ends.{Weighed, sizesUpTo}
 
 -- the change with that coordinate and that slope
@@ -35,9 +35,9 @@ pub holds-append : (xs ws : List ℤ) (first bound n : ℕ) (cs ds : List Change
 holds-append xs ws first bound n cs ds h left right f =
     tally-split (λ x w. pos (f (changeOf x w))) xs ws first bound n h ∙ rw (left f, right f, tally-append f cs ds) refl
 
--- one that is arranged
-pub holds-arranged : {xs ws xs′ ws′ : List ℤ} {first end : ℕ} (cs : List Change) → Arranged xs ws xs′ ws′ first end → Holds xs ws first end cs → Holds xs′ ws′ first end cs
-holds-arranged cs r h f = r .same (λ x w. pos (f (changeOf x w))) ∙ h f
+-- one whose changes are put elsewhere in it
+pub holds-kept : {xs ws xs′ ws′ : List ℤ} {first end : ℕ} (cs : List Change) → Kept xs ws xs′ ws′ first end → Holds xs ws first end cs → Holds xs′ ws′ first end cs
+holds-kept cs r h f = r .same (λ x w. pos (f (changeOf x w))) ∙ h f
 
 -- one that a change elsewhere leaves as it was
 pub holds-ext : (xs ws xs′ ws′ : List ℤ) (first end : ℕ) (cs : List Change)

@@ -1,6 +1,6 @@
 -- How the changes of a row lie in the lists that are lent (document 01, "Slope changes"): cell after cell, each cell's counted from its packed
 -- place. Beside them lie, for each cell and past the last, its packed place, how many changes lie before it, and what those need.
-use Prim.Native.Nat.{ℕ, zero, suc, _+_, _-_, _*_, _≤_, _<_}
+use Prim.Native.Nat.{ℕ, zero, suc, _+_, _-_, _*_, _≤_}
 use mathlib.Core.Path.{_≡_, refl, ap, sym, _∙_}
 use mathlib.Core.Bool.{Bool, true, false, cond}
 use mathlib.Core.List.{List, [], _∷_, _++_}
@@ -8,7 +8,7 @@ use native.Mathlib.Nat.{add-zero, add-suc}
 use native.Mathlib.Omega.{arith}
 use lib.ListN.{length, getD, length-append}
 use lib.Dec.{eqb}
-use borrow.Author.Tests.{eqb-true, eqb-false}
+use borrow.Author.Tests.{eqb-true}
 use lib.IntN.{ℤ, pos}
 use Rattle.rules.specs.Sizes.{widest, mostCells, mostNets}
 use Rattle.rules.specs.Row.{Row, Net}

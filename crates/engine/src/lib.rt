@@ -3,8 +3,8 @@
 // of them left: it puts the two parts in one order.
 ghost use mathlib.Core.Path.{_≡_};
 ghost use mathlib.Core.Bool.{true, false, not, _&&_};
-ghost use mathlib.Core.List.{List, []};
-ghost use Prim.Native.Nat.{ℕ, _+_, _-_, _≤_, _<_, max};
+ghost use mathlib.Core.List.{List};
+ghost use Prim.Native.Nat.{_+_, _-_, _≤_, _<_, max};
 ghost use lib.ListN.{length, getD, set};
 ghost use lib.Dec.{leb};
 ghost use lib.IntN.{ℤ, pos, _+ℤ_, _-ℤ_};
@@ -14,15 +14,14 @@ ghost use mir.Val.{SFits};
 ghost use Rattle.rules.specs.Sizes.{widest, mostCells};
 ghost use Rattle.rules.specs.Row.{Row};
 ghost use Rattle.rules.specs.Steps.{Bench as Meant, finished, step, run, stepsTaken};
-ghost use Rattle.changes.specs.Parts.{mostChanges, Arranged};
-ghost use Rattle.engine.specs.Taken.{firstOfLast, endOfLast, withOpened, withJoined, withSettled, Ends, Joins};
-ghost use Rattle.engine.specs.Best.{Spans, IsBest};
+ghost use Rattle.engine.specs.Taken.{firstOfLast, endOfLast, lastPart, withHand, withOpened, withJoined, withSettled, PartMade, Makes, Ends, HasLast, Joins};
+ghost use Rattle.engine.specs.Best.{Spans, FoundIn, IsBest, Capped};
 ghost use Rattle.engine.specs.Laid.{Laid};
-ghost use Rattle.engine.specs.Stands.{Sorted, Numbers, Stands};
-ghost use Rattle.engine.specs.Ready.{Unfinished, Counted, Saved};
+ghost use Rattle.engine.specs.Stands.{listsOf, withPart, Apiece, Numbers, Stands};
+ghost use Rattle.engine.specs.Ready.{Unfinished, Counted, Found, Saved};
 use changes::Meeting;
-use changes::ends;
-use changes::sort;
+use changes::Part;
+use changes::arrange;
 use rules::Carried;
 use rules::ENDS;
 use rules::MOST_CELLS;
@@ -30,20 +29,22 @@ use rules::MOST_CHANGES;
 use rules::Site;
 use rules::Steps;
 
-// The work so far: how many cells are opened, whether a clump is in hand and which cell it begins with, how many clumps are settled, and how
-// many changes were carried.
+// The work so far: how many cells are opened, whether a clump is in hand, which cell it begins with and its part of the changes, how many clumps
+// are settled, and how many changes were carried.
 pub struct Bench {
     pub opened: usize,
     pub held: bool,
     pub first: usize,
     pub settled: usize,
     pub carried: Carried,
+    pub hand: Part,
 }
 
-// l and r of a clump.
+// l and r of a clump, and whether they are sure: its changes are in order up to there.
 pub struct Best {
     pub left: Site,
     pub right: Site,
+    pub sure: bool,
 }
 
 fn wide(x: u16) -> usize
@@ -82,61 +83,130 @@ fn difference(a: i64, b: i64) -> i64
 }
 
 impl Bench {
-    // Open: the next cell is in hand as a clump, and its changes are sorted.
-    pub fn open(
+    // The clump in hand with its changes put in order up to its right limit.
+    fn arranged(
         self,
+        width: u32,
+        places: &[u32; ENDS],
+        held: &[usize; ENDS],
         at: &mut [i32; MOST_CHANGES],
         slope: &mut [i64; MOST_CHANGES],
-        held: &[usize; ENDS],
     ) -> Self
-        requires { ⌜ (length (now at) ≡ mostChanges) × (length (now slope) ≡ mostChanges) × (self .opened < mostCells) ⌝ }
-        requires { ⌜ (getD (now held) (self .opened) 0 ≤ getD (now held) (self .opened + 1) 0) × (getD (now held) (self .opened + 1) 0 ≤ mostChanges) ⌝ }
-        ensures { λ r. ⌜ r ≡ withOpened self ⌝ }
-        ensures { λ _. ⌜ Arranged (now (at .entry)) (now (slope .entry)) (now (at .exit)) (now (slope .exit)) (getD (now (held .entry)) (self .opened) 0) (getD (now (held .entry)) (self .opened + 1) 0) ⌝ }
+        requires { ⌜ Makes (self .first) (self .opened) width (now places) (now held) (now at) (now slope) ⌝ }
+        ensures { λ r. ⌜ r ≡ withHand self (r .hand) ⌝ }
+        ensures { λ r. ⌜ r .hand .cap ≡ pos width -ℤ pos (getD (now (places .entry)) (self .opened) 0) ⌝ }
+        ensures { λ r. ⌜ PartMade (getD (now (held .entry)) (self .first) 0) (getD (now (held .entry)) (self .opened) 0) (pos 0 -ℤ pos (getD (now (places .entry)) (self .first) 0)) (now (at .entry)) (now (slope .entry)) (now (at .exit)) (now (slope .exit)) (r .hand) ⌝ }
     {
-        let cell = self.opened;
-        sort(at, slope, held[cell], held[cell + 1]);
+        let first = self.first;
+        let opened = self.opened;
+        let low = counted_from(0, places[first]);
+        let cap = counted_from(width, places[opened]);
+        let part = arrange(at, slope, held[first], held[opened], low, cap);
         let carried = self.carried;
         Bench {
+            opened: opened,
+            held: self.held,
+            first: self.first,
+            settled: self.settled,
+            carried: carried,
+            hand: part,
+        }
+    }
+
+    // Open: the next cell is in hand as a clump, and its changes are put in order.
+    pub fn open(
+        self,
+        width: u32,
+        places: &[u32; ENDS],
+        held: &[usize; ENDS],
+        at: &mut [i32; MOST_CHANGES],
+        slope: &mut [i64; MOST_CHANGES],
+    ) -> Self
+        requires { ⌜ Makes (self .opened) (self .opened + 1) width (now places) (now held) (now at) (now slope) ⌝ }
+        ensures { λ r. ⌜ r ≡ withOpened self (r .hand) ⌝ }
+        ensures { λ r. ⌜ PartMade (getD (now (held .entry)) (self .opened) 0) (getD (now (held .entry)) (self .opened + 1) 0) (pos 0 -ℤ pos (getD (now (places .entry)) (self .opened) 0)) (now (at .entry)) (now (slope .entry)) (now (at .exit)) (now (slope .exit)) (r .hand) ⌝ }
+    {
+        let cell = self.opened;
+        let carried = self.carried;
+        let hand = self.hand;
+        let next = Bench {
             opened: cell + 1,
             held: true,
             first: cell,
             settled: self.settled,
             carried: carried,
+            hand: hand,
+        };
+        next.arranged(width, places, held, at, slope)
+    }
+
+    // The part of the last settled clump: its changes are in order up to where it stands.
+    fn last(
+        self,
+        places: &[u32; ENDS],
+        held: &[usize; ENDS],
+        cells: &[u16; MOST_CELLS],
+        edges: &[u32; MOST_CELLS],
+        froms: &[usize; MOST_CELLS],
+        tos: &[usize; MOST_CELLS],
+        sums: &[i64; MOST_CELLS],
+    ) -> Part
+        requires { ⌜ HasLast self (now places) (now cells) (now edges) ⌝ }
+        ensures { λ r. ⌜ r ≡ lastPart self (now (places .entry)) (now (held .entry)) (now (cells .entry)) (now (edges .entry)) (listsOf (now (froms .entry)) (now (tos .entry)) (now (sums .entry))) ⌝ }
+    {
+        let last = self.settled - 1;
+        let bound = self.first;
+        let first = bound - wide(cells[last]);
+        let start = places[first];
+        Part {
+            first: held[first],
+            from: froms[last],
+            to: tos[last],
+            end: held[bound],
+            low: counted_from(0, start),
+            cap: counted_from(edges[last], start),
+            sum: sums[last],
         }
     }
 
     // Join: the last settled clump and the one in hand are one clump in hand. Their two parts meet, and the shorter is put across.
     pub fn join(
         self,
+        places: &[u32; ENDS],
+        held: &[usize; ENDS],
         at: &mut [i32; MOST_CHANGES],
         slope: &mut [i64; MOST_CHANGES],
-        held: &[usize; ENDS],
         cells: &[u16; MOST_CELLS],
+        edges: &[u32; MOST_CELLS],
+        froms: &[usize; MOST_CELLS],
+        tos: &[usize; MOST_CELLS],
+        sums: &[i64; MOST_CELLS],
     ) -> Self
-        requires { ⌜ (length (now at) ≡ mostChanges) × (length (now slope) ≡ mostChanges) × Joins self (now held) (now cells) (now at) ⌝ }
-        ensures { λ r. ⌜ r ≡ withJoined self (now (cells .entry)) (now (held .entry)) ⌝ }
-        ensures { λ _. ⌜ Arranged (now (at .entry)) (now (slope .entry)) (now (at .exit)) (now (slope .exit)) (getD (now (held .entry)) (firstOfLast self (now (cells .entry))) 0) (getD (now (held .entry)) (self .opened) 0) ⌝ }
+        requires { ⌜ Joins self (now places) (now held) (now cells) (now edges) (listsOf (now froms) (now tos) (now sums)) (now at) (now slope) ⌝ }
+        ensures { λ r. ⌜ r ≡ withJoined self (now (cells .entry)) (now (held .entry)) (r .hand) ⌝ }
+        ensures { λ r. ⌜ PartMade (getD (now (held .entry)) (firstOfLast self (now (cells .entry))) 0) (self .hand .end) (pos 0 -ℤ pos (getD (now (places .entry)) (firstOfLast self (now (cells .entry))) 0)) (now (at .entry)) (now (slope .entry)) (now (at .exit)) (now (slope .exit)) (r .hand) ⌝ }
     {
         let last = self.settled - 1;
         let bound = self.first;
         let first = bound - wide(cells[last]);
-        let opened = self.opened;
+        let left = self.last(places, held, cells, edges, froms, tos, sums);
+        let right = self.hand;
         let carried = self.carried;
         let meeting = Meeting {
-            first: held[first],
-            bound: held[bound],
-            end: held[opened],
+            left: left,
+            right: right,
             carried: carried,
         };
         let joined = meeting.join(at, slope);
+        let part = joined.part;
         let counted = joined.carried;
         Bench {
-            opened: opened,
+            opened: self.opened,
             held: true,
             first: first,
             settled: last,
             carried: counted,
+            hand: part,
         }
     }
 
@@ -146,16 +216,25 @@ impl Bench {
         edge: Site,
         cells: &mut [u16; MOST_CELLS],
         edges: &mut [u32; MOST_CELLS],
+        froms: &mut [usize; MOST_CELLS],
+        tos: &mut [usize; MOST_CELLS],
+        sums: &mut [i64; MOST_CELLS],
     ) -> Self
         requires { ⌜ (self .settled < mostCells) × (self .first ≤ self .opened) × (self .opened ≤ mostCells) ⌝ }
         ensures { λ r. ⌜ r ≡ withSettled self ⌝ }
         ensures { λ _. ⌜ now (cells .exit) ≡ set (now (cells .entry)) (self .settled) (self .opened - self .first) ⌝ }
         ensures { λ _. ⌜ now (edges .exit) ≡ set (now (edges .entry)) (self .settled) (edge .0) ⌝ }
+        ensures { λ _. ⌜ (listsOf (now (froms .exit)) (now (tos .exit)) (now (sums .exit))) ≡ withPart (listsOf (now (froms .entry)) (now (tos .entry)) (now (sums .entry))) (self .settled) (self .hand) ⌝ }
     {
         let place = self.settled;
         let count = self.opened - self.first;
         cells[place] = count as u16;
         edges[place] = edge.0;
+        let hand = self.hand;
+        froms[place] = hand.from;
+        tos[place] = hand.to;
+        let sum = hand.sum;
+        sums[place] = sum;
         let carried = self.carried;
         Bench {
             opened: self.opened,
@@ -163,6 +242,7 @@ impl Bench {
             first: self.first,
             settled: place + 1,
             carried: carried,
+            hand: hand,
         }
     }
 
@@ -190,26 +270,28 @@ impl Bench {
         self,
         width: u32,
         places: &[u32; ENDS],
-        held: &[usize; ENDS],
         need: &[i64; ENDS],
         at: &[i32; MOST_CHANGES],
         slope: &[i64; MOST_CHANGES],
     ) -> Best
-        requires { ⌜ Spans self width (now places) (now held) (now need) (now at) (now slope) ⌝ }
-        ensures { λ r. ⌜ IsBest self width (now (places .entry)) (now (held .entry)) (now (need .entry)) (now (at .entry)) (now (slope .entry)) (r .left .0) (r .right .0) ⌝ }
+        requires { ⌜ Spans self width (now places) (now need) (now at) (now slope) ⌝ }
+        ensures { λ r. ⌜ (r .sure ≡ true → IsBest self width (now (places .entry)) (now (need .entry)) (now (at .entry)) (now (slope .entry)) (r .left .0) (r .right .0)) ⌝ }
+        ensures { λ r. ⌜ (r .sure ≡ true → Capped self (now (places .entry)) (r .right .0)) ⌝ }
+        ensures { λ r. ⌜ (self .hand .cap ≡ pos width -ℤ pos (getD (now (places .entry)) (self .opened) 0) → r .sure ≡ true) ⌝ }
     {
         let first = self.first;
         let opened = self.opened;
         let start = places[first];
-        let low = counted_from(0, start);
         let high = counted_from(width, places[opened]);
         let wanted = difference(need[opened], need[first]);
-        let found = ends(at, slope, held[first], held[opened], wanted, low, high);
+        let hand = self.hand;
+        let found = hand.ends(at, slope, wanted, high);
         let left = site(found.left, start);
         let right = site(found.right, start);
         Best {
             left: left,
             right: right,
+            sure: found.right <= hand.cap,
         }
     }
 
@@ -219,31 +301,48 @@ impl Bench {
     {
         !self.held && count <= self.opened
     }
-    // A bench that was loaded: the changes of each of its clumps, which lie cell by cell, are sorted again. That carries nothing.
+
+    // A bench that was loaded: the changes of each of its clumps, which lie cell by cell, are put in order again. That carries nothing.
     pub fn remake(
         self,
+        width: u32,
+        places: &[u32; ENDS],
+        held: &[usize; ENDS],
         at: &mut [i32; MOST_CHANGES],
         slope: &mut [i64; MOST_CHANGES],
-        held: &[usize; ENDS],
         cells: &[u16; MOST_CELLS],
-    )
-        requires { ⌜ Saved (now held) self (now cells) (now at) (now slope) ⌝ }
-        ensures { λ _. ⌜ ((R : Row) (b : Meant) (places : List ℕ) (needs : List ℤ) (edges : List ℕ) → Laid R places (now (held .entry)) needs → Numbers R self (now (cells .entry)) edges b → Sorted R (now (at .entry)) (now (slope .entry)) [] → Stands R self (now (cells .entry)) edges (now (at .exit)) (now (slope .exit)) b) ⌝ }
+        edges: &[u32; MOST_CELLS],
+        froms: &mut [usize; MOST_CELLS],
+        tos: &mut [usize; MOST_CELLS],
+        sums: &mut [i64; MOST_CELLS],
+    ) -> Self
+        requires { ⌜ Saved width (now places) (now held) self (now cells) (now edges) (listsOf (now froms) (now tos) (now sums)) (now at) (now slope) ⌝ }
+        ensures { λ r. ⌜ ((R : Row) (b : Meant) (needs : List ℤ) → width ≡ R .width → Laid R (now (places .entry)) (now (held .entry)) needs → Numbers R self (now (cells .entry)) (now (edges .entry)) b → Apiece R (now (at .entry)) (now (slope .entry)) → Stands R r (now (cells .entry)) (now (edges .entry)) (listsOf (now (froms .exit)) (now (tos .exit)) (now (sums .exit))) (now (at .exit)) (now (slope .exit)) b) ⌝ }
     {
         let settled = self.settled;
-        let opened = self.opened;
         let mut first = 0;
         let mut k = 0;
         while k < settled {
             let end = first + wide(cells[k]);
-            sort(at, slope, held[first], held[end]);
+            let start = places[first];
+            let low = counted_from(0, start);
+            let cap = counted_from(edges[k], start);
+            let part = arrange(at, slope, held[first], held[end], low, cap);
+            froms[k] = part.from;
+            tos[k] = part.to;
+            let sum = part.sum;
+            sums[k] = sum;
             first = end;
             k += 1;
         }
-        sort(at, slope, held[first], held[opened]);
+        if !self.held {
+            return self;
+        }
+        self.arranged(width, places, held, at, slope)
     }
 
     // One step. In hand: join where the end of the last settled clump exceeds r, otherwise settle at the larger of that end and l. Nothing in hand: open.
+    // Where r is not sure, the clump's changes are put in order again, up to its right limit.
     pub fn step(
         self,
         width: u32,
@@ -254,20 +353,70 @@ impl Bench {
         slope: &mut [i64; MOST_CHANGES],
         cells: &mut [u16; MOST_CELLS],
         edges: &mut [u32; MOST_CELLS],
+        froms: &mut [usize; MOST_CELLS],
+        tos: &mut [usize; MOST_CELLS],
+        sums: &mut [i64; MOST_CELLS],
     ) -> Self
-        requires { ⌜ Unfinished width (now places) (now held) (now need) self (now cells) (now edges) (now at) (now slope) ⌝ }
-        ensures { λ r. ⌜ ((R : Row) (b : Meant) → width ≡ R .width → Laid R (now (places .entry)) (now (held .entry)) (now (need .entry)) → Stands R self (now (cells .entry)) (now (edges .entry)) (now (at .entry)) (now (slope .entry)) b → finished R b ≡ false → Stands R r (now (cells .exit)) (now (edges .exit)) (now (at .exit)) (now (slope .exit)) (step R b)) ⌝ }
+        requires { ⌜ Unfinished width (now places) (now held) (now need) self (now cells) (now edges) (listsOf (now froms) (now tos) (now sums)) (now at) (now slope) ⌝ }
+        ensures { λ r. ⌜ ((R : Row) (b : Meant) → width ≡ R .width → Laid R (now (places .entry)) (now (held .entry)) (now (need .entry)) → Stands R self (now (cells .entry)) (now (edges .entry)) (listsOf (now (froms .entry)) (now (tos .entry)) (now (sums .entry))) (now (at .entry)) (now (slope .entry)) b → finished R b ≡ false → Stands R r (now (cells .exit)) (now (edges .exit)) (listsOf (now (froms .exit)) (now (tos .exit)) (now (sums .exit))) (now (at .exit)) (now (slope .exit)) (step R b)) ⌝ }
     {
         if !self.held {
-            return self.open(at, slope, held);
+            return self.open(width, places, held, at, slope);
         }
+        let found = self.best(width, places, need, at, slope);
+        if found.sure {
+            return self.moved(
+                found,
+                places,
+                held,
+                at,
+                slope,
+                cells,
+                edges,
+                froms,
+                tos,
+                sums,
+            );
+        }
+        let again = self.arranged(width, places, held, at, slope);
+        let best = again.best(width, places, need, at, slope);
+        again.moved(
+            best,
+            places,
+            held,
+            at,
+            slope,
+            cells,
+            edges,
+            froms,
+            tos,
+            sums,
+        )
+    }
+
+    // With its best interval found, the clump in hand is joined or settled.
+    fn moved(
+        self,
+        best: Best,
+        places: &[u32; ENDS],
+        held: &[usize; ENDS],
+        at: &mut [i32; MOST_CHANGES],
+        slope: &mut [i64; MOST_CHANGES],
+        cells: &mut [u16; MOST_CELLS],
+        edges: &mut [u32; MOST_CELLS],
+        froms: &mut [usize; MOST_CELLS],
+        tos: &mut [usize; MOST_CELLS],
+        sums: &mut [i64; MOST_CELLS],
+    ) -> Self
+        requires { ⌜ Found (now places) (now held) self (now cells) (now edges) (listsOf (now froms) (now tos) (now sums)) (now at) (now slope) (best .left .0) (best .right .0) ⌝ }
+        ensures { λ r. ⌜ ((R : Row) (b : Meant) (needs : List ℤ) → Laid R (now (places .entry)) (now (held .entry)) needs → Stands R self (now (cells .entry)) (now (edges .entry)) (listsOf (now (froms .entry)) (now (tos .entry)) (now (sums .entry))) (now (at .entry)) (now (slope .entry)) b → FoundIn R b (best .left .0) (best .right .0) → Stands R r (now (cells .exit)) (now (edges .exit)) (listsOf (now (froms .exit)) (now (tos .exit)) (now (sums .exit))) (now (at .exit)) (now (slope .exit)) (step R b)) ⌝ }
+    {
         let end = self.end(places, cells, edges);
-        let best = self.best(width, places, held, need, at, slope);
         if best.right.0 < end.0 {
-            return self.join(at, slope, held, cells);
+            return self.join(places, held, at, slope, cells, edges, froms, tos, sums);
         }
         let edge = larger(end, best.left);
-        self.settle(edge, cells, edges)
+        self.settle(edge, cells, edges, froms, tos, sums)
     }
 }
 
@@ -290,14 +439,29 @@ pub fn run(
     slope: &mut [i64; MOST_CHANGES],
     cells: &mut [u16; MOST_CELLS],
     edges: &mut [u32; MOST_CELLS],
+    froms: &mut [usize; MOST_CELLS],
+    tos: &mut [usize; MOST_CELLS],
+    sums: &mut [i64; MOST_CELLS],
 ) -> Ran
-    requires { ⌜ Counted count width (now places) (now held) (now need) from (now cells) (now edges) (now at) (now slope) ⌝ }
-    ensures { λ r. ⌜ ((R : Row) (b : Meant) → width ≡ R .width → count ≡ length (R .widths) → Laid R (now (places .entry)) (now (held .entry)) (now (need .entry)) → Stands R from (now (cells .entry)) (now (edges .entry)) (now (at .entry)) (now (slope .entry)) b → Stands R (r .bench) (now (cells .exit)) (now (edges .exit)) (now (at .exit)) (now (slope .exit)) (run R budget b) × (r .steps .0 ≡ stepsTaken R budget b)) ⌝ }
+    requires { ⌜ Counted count width (now places) (now held) (now need) from (now cells) (now edges) (listsOf (now froms) (now tos) (now sums)) (now at) (now slope) ⌝ }
+    ensures { λ r. ⌜ ((R : Row) (b : Meant) → width ≡ R .width → count ≡ length (R .widths) → Laid R (now (places .entry)) (now (held .entry)) (now (need .entry)) → Stands R from (now (cells .entry)) (now (edges .entry)) (listsOf (now (froms .entry)) (now (tos .entry)) (now (sums .entry))) (now (at .entry)) (now (slope .entry)) b → Stands R (r .bench) (now (cells .exit)) (now (edges .exit)) (listsOf (now (froms .exit)) (now (tos .exit)) (now (sums .exit))) (now (at .exit)) (now (slope .exit)) (run R budget b) × (r .steps .0 ≡ stepsTaken R budget b)) ⌝ }
 {
     let mut bench = from;
     let mut steps: u32 = 0;
     while steps < budget && !bench.finished(count) {
-        bench = bench.step(width, places, held, need, at, slope, cells, edges);
+        bench = bench.step(
+            width,
+            places,
+            held,
+            need,
+            at,
+            slope,
+            cells,
+            edges,
+            froms,
+            tos,
+            sums,
+        );
         steps += 1;
     }
     Ran {

@@ -116,7 +116,8 @@ pub extern "C" fn lugsheet_slice(row: &[u8], bench: &mut [u8], budget: u32) -> u
     if bench.len() != BENCH_SIZE {
         return refused(Refusal::Room, 0);
     }
-    let s = slicing::slice(h, bench, budget);
+    let net = h.net;
+    let s = slicing::slice(h.width, h.cells, h.nets, &h.widths, net, bench, budget);
     if !s.formed {
         return refused(Refusal::WrongBench, 0);
     }
@@ -142,7 +143,8 @@ pub extern "C" fn lugsheet_placement(row: &[u8], bench: &[u8], placement: &mut [
     if placement.len() != 4 * cells {
         return refused(Refusal::Room, 0);
     }
-    let p = placing::place(h, bench, placement);
+    let net = h.net;
+    let p = placing::place(h.width, cells, h.nets, &h.widths, net, bench, placement);
     if !p.formed {
         return refused(Refusal::WrongBench, 0);
     }

@@ -10,13 +10,14 @@ ghost use Rattle.rules.specs.Sizes.{benchSize};
 ghost use Rattle.rules.specs.Row.{Row};
 ghost use Rattle.rules.specs.Bench.{benchOf};
 ghost use Rattle.rules.specs.Calls.{packed, positions, siteBytes};
-ghost use Rattle.reading.specs.Reads.{Holds};
+ghost use Rattle.reading.specs.Reads.{Holds, sheetOf};
 ghost use Rattle.placing.specs.Sites.{over};
 ghost use Rattle.placing.specs.Puts.{Fits, Ready};
 ghost use Rattle.placing.specs.PlacedAs.{PlacedAs};
 use benches::Saved;
-use reading::Sheet;
+use nets::Net;
 use rules::MOST_CELLS;
+use rules::MOST_NETS;
 
 // Is the bench in form, is it finished, and if both, how long is the netlength?
 pub struct Placed {
@@ -71,14 +72,21 @@ fn put_clumps(saved: Saved, widths: &[u32; MOST_CELLS], placement: &mut [u8])
     }
 }
 
-// The positions that a bench gives, for a row that was read.
-pub fn place(h: Sheet, bench: &[u8], placement: &mut [u8]) -> Placed
-    requires { ⌜ (length (now bench) ≡ benchSize) × ((R : Row) × (Holds h R × (length (now placement) ≡ 4 * length (R .widths)))) ⌝ }
-    ensures { λ r. ⌜ ((R : Row) → Holds h R → PlacedAs R (now (bench .entry)) (now (placement .entry)) (now (placement .exit)) r) ⌝ }
+// The positions that a bench gives, for a row that was read, by what was kept of it.
+pub fn place(
+    width: u32,
+    cells: usize,
+    nets: usize,
+    widths: &[u32; MOST_CELLS],
+    net: [Net; MOST_NETS],
+    bench: &[u8],
+    placement: &mut [u8],
+) -> Placed
+    requires { ⌜ (length (now bench) ≡ benchSize) × ((R : Row) × (Holds (sheetOf width cells nets (now widths) net) R × (length (now placement) ≡ 4 * length (R .widths)))) ⌝ }
+    ensures { λ r. ⌜ ((R : Row) → Holds (sheetOf width cells nets (now (widths .entry)) net) R → PlacedAs R (now (bench .entry)) (now (placement .entry)) (now (placement .exit)) r) ⌝ }
 {
-    let cells = h.cells;
-    let before = layout::places(&h.widths, cells);
-    let saved = benches::load(bench, h.width, cells, &before);
+    let before = layout::places(widths, cells);
+    let saved = benches::load(bench, width, cells, &before);
     if !saved.formed {
         return Placed {
             formed: false,
@@ -93,9 +101,8 @@ pub fn place(h: Sheet, bench: &[u8], placement: &mut [u8]) -> Placed
             length: 0,
         };
     }
-    put_clumps(saved, &h.widths, placement);
-    let net = h.net;
-    let length = measuring::netlength(net, h.nets, placement);
+    put_clumps(saved, widths, placement);
+    let length = measuring::netlength(net, nets, placement);
     Placed {
         formed: true,
         finished: true,

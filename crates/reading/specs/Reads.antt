@@ -40,6 +40,10 @@ pub record Holds (h : Sheet) (R : Row) : Type 0 where
   pub place : h .place ≡ 0
   pub sound : Sound R
 
+-- a row that was taken, by what is kept of it
+abbrev pub sheetOf : ℕ → ℕ → ℕ → List ℕ → List Net → Sheet
+sheetOf width cells nets widths net = record { verdict = Taken; place = 0; width = width; cells = cells; nets = nets; widths = widths; net = net }
+
 pub record Empty (h : Sheet) : Type 0 where
   pub width : h .width ≡ 0
   pub cells : h .cells ≡ 0

@@ -19,7 +19,7 @@ use Rattle.nets.specs.Span.{Tied, Kept}
 use Rattle.nets.specs.SpanLaws.{tied-kept}
 use Rattle.reading.specs.Sound.{Every, PinFits, NetFits, Pinned, Sound}
 use Rattle.reading.specs.SoundLaws.{every-at}
-use Rattle.reading.specs.Reads.{blank, noNet, Holds, Reads}
+use Rattle.reading.specs.Reads.{blank, noNet, Holds, sheetOf, Reads}
 use Rattle.reading.specs.declared.Sheet.{Sheet}
 use Rattle.reading.specs.declared.Verdict.the-variants.{Taken, Refused}
 
@@ -32,6 +32,22 @@ said-refused (refused p place) h q r e = let v = r .0 in let at = r .1 in cc
 pub said-taken : (x : Read) (h : Sheet) → Reads x h → h .verdict ≡ Taken → (R : Row) × ((x ≡ taken R) × Holds h R)
 said-taken (taken R) h r e = (R, (refl, r .1))
 said-taken (refused q place) h r e = let v = r .0 in let z : _≡_ {A = ℕ} 0 1 = cc in absurd (omega arith)
+
+-- a sheet of a row that was taken, by its parts
+pub holds-parts : (h : Sheet) (R : Row) → Holds h R → Holds (sheetOf (h .width) (h .cells) (h .nets) (h .widths) (h .net)) R
+holds-parts h R a =
+    record {
+      width = a .width;
+      cells = a .cells;
+      nets = a .nets;
+      widths = a .widths;
+      net = a .net;
+      unused = a .unused;
+      room-cells = a .room-cells;
+      room-nets = a .room-nets;
+      place = refl;
+      sound = a .sound;
+    }
 
 -- ---- two sheets of the same bytes
 

@@ -1,5 +1,6 @@
 -- The rows worked by hand (document 01, "Rows worked by hand"), as bytes, in one table under a single claim: what the calls' definitions
--- answer and write for them. Four rows of our own stand beside them, for slips that the document's rows let pass.
+-- answer and write for them. Four rows of our own stand beside them: three for slips that the document's rows let pass, and `end-at-right`, in which
+-- an end lies exactly at r.
 use Prim.Native.Nat.{ℕ, zero, suc, _+_, _*_, _^_}
 use mathlib.Core.Path.{_≡_, refl}
 use mathlib.Core.List.{List, [], _∷_, _++_}

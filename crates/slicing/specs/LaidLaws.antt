@@ -24,7 +24,7 @@ use Rattle.layout.specs.PartSums.{natOf, sum-nat}
 use Rattle.layout.specs.RowLaws.{nets-of-row, ready-of-row, held-of-row, needed-of-row, laid-of-row, places-of-row, places-near, run-tally, run-weighed}
 use Rattle.engine.specs.Holds.{Holds as PartHolds}
 use Rattle.engine.specs.Laid.{heldBefore, needBefore, Laid}
-use Rattle.engine.specs.Stands.{Sorted}
+use Rattle.engine.specs.Stands.{Apiece}
 
 every-in {ℓ} : {A : Type ℓ} (P : A → Type 0) (xs : List A) → Every P xs → (x : A) → In x xs → P x
 every-in P [] e x m = absurd (not-nil m)
@@ -111,5 +111,5 @@ module _ (h : Sheet) (R : Row) (holds : Holds h R) where
           let w = run-weighed R row-held (row-places p) (laid-of-row row-nets spread) light 0 (length (R .widths)) (omega arith) (omega (arith, holds .cells)) in
           rw (first, last) at w
 
-      pub row-apiece : Sorted R xs ws []
-      row-apiece = record { parts = tt; rest = λ i g l. cell-holds i l; weighed = all-weighed; long = spread .long; wide = spread .wide }
+      pub row-apiece : Apiece R xs ws
+      row-apiece = record { each = λ i g l. cell-holds i l; weighed = all-weighed; long = spread .long; wide = spread .wide }

@@ -8,23 +8,24 @@ ghost use Rattle.rules.specs.Sizes.{mostCells, benchSize};
 ghost use Rattle.rules.specs.Row.{Row};
 ghost use Rattle.rules.specs.Steps.{Bench as Meant};
 ghost use Rattle.rules.specs.Bench.{benchBytes};
-ghost use Rattle.reading.specs.Reads.{Holds};
+ghost use Rattle.reading.specs.Reads.{Holds, sheetOf};
 ghost use Rattle.engine.specs.Stands.{Numbers};
 ghost use Rattle.slicing.specs.Sliced.{SlicedAs, Advanced};
 ghost use Rattle.slicing.specs.Begun.{begun, Begins};
 use benches::Saved;
 use benches::load;
 use benches::store;
+use changes::Part;
 use engine::Bench;
 use engine::run;
-use layout::Shares;
+use layout::lay_out;
 use layout::places;
-use layout::spread;
-use reading::Sheet;
+use nets::Net;
 use rules::Carried;
 use rules::ENDS;
 use rules::MOST_CELLS;
 use rules::MOST_CHANGES;
+use rules::MOST_NETS;
 use rules::Steps;
 
 // What a slice answers: whether the bench was in form, and if so how many steps it took and whether all is done.
@@ -51,6 +52,15 @@ fn begin(
     requires { ⌜ (clumps ≤ mostCells) × (cond held 1 0 ≤ clumps) × (cond held (getD (now cells) (clumps - 1) 0) 0 ≤ opened) ⌝ }
     ensures { λ r. ⌜ r ≡ begun opened held clumps carried (now (cells .entry)) ⌝ }
 {
+    let hand = Part {
+        first: 0,
+        from: 0,
+        to: 0,
+        end: 0,
+        low: 0,
+        cap: 0,
+        sum: 0,
+    };
     if !held {
         return Bench {
             opened: opened,
@@ -58,6 +68,7 @@ fn begin(
             first: opened,
             settled: clumps,
             carried: carried,
+            hand: hand,
         };
     }
     let last = clumps - 1;
@@ -67,6 +78,7 @@ fn begin(
         first: opened - wide(cells[last]),
         settled: last,
         carried: carried,
+        hand: hand,
     }
 }
 
@@ -107,9 +119,23 @@ fn advance(
     let mut edges = saved.edges;
     let carried = saved.carried;
     let from = begin(saved.opened, saved.held, saved.clumps, carried, &cells);
-    from.remake(at, slope, held, &cells);
+    let mut froms = [0usize; MOST_CELLS];
+    let mut tos = [0usize; MOST_CELLS];
+    let mut sums = [0i64; MOST_CELLS];
+    let made = from.remake(
+        width,
+        places,
+        held,
+        at,
+        slope,
+        &cells,
+        &edges,
+        &mut froms,
+        &mut tos,
+        &mut sums,
+    );
     let ran = run(
-        from,
+        made,
         budget,
         width,
         count,
@@ -120,6 +146,9 @@ fn advance(
         slope,
         &mut cells,
         &mut edges,
+        &mut froms,
+        &mut tos,
+        &mut sums,
     );
     let left = ran.bench;
     save(left, &mut cells, &mut edges, bench);
@@ -132,13 +161,20 @@ fn advance(
     }
 }
 
-pub fn slice(h: Sheet, bench: &mut [u8], budget: u32) -> Sliced
-    requires { ⌜ (length (now bench) ≡ benchSize) × ((R : Row) × Holds h R) ⌝ }
-    ensures { λ r. ⌜ ((R : Row) → Holds h R → SlicedAs R budget (now (bench .entry)) (now (bench .exit)) r) ⌝ }
+// Of a row that was read, by what was kept of it: handed over as one sheet, all of it would be copied.
+pub fn slice(
+    width: u32,
+    count: usize,
+    nets: usize,
+    widths: &[u32; MOST_CELLS],
+    net: [Net; MOST_NETS],
+    bench: &mut [u8],
+    budget: u32,
+) -> Sliced
+    requires { ⌜ (length (now bench) ≡ benchSize) × ((R : Row) × Holds (sheetOf width count nets (now widths) net) R) ⌝ }
+    ensures { λ r. ⌜ ((R : Row) → Holds (sheetOf width count nets (now (widths .entry)) net) R → SlicedAs R budget (now (bench .entry)) (now (bench .exit)) r) ⌝ }
 {
-    let width = h.width;
-    let count = h.cells;
-    let starts = places(&h.widths, count);
+    let starts = places(widths, count);
     let saved = load(bench, width, count, &starts);
     if !saved.formed {
         return Sliced {
@@ -147,14 +183,20 @@ pub fn slice(h: Sheet, bench: &mut [u8], budget: u32) -> Sliced
             finished: false,
         };
     }
-    let nets = h.nets;
-    let net = h.net;
-    let shares = Shares::of(net, nets, count);
-    let held = shares.held;
-    let need = shares.need;
+    let mut held = [0usize; ENDS];
+    let mut need = [0i64; ENDS];
     let mut at = [0i32; MOST_CHANGES];
     let mut slope = [0i64; MOST_CHANGES];
-    spread(net, nets, count, &starts, &held, &mut at, &mut slope);
+    lay_out(
+        net,
+        nets,
+        count,
+        &starts,
+        &mut held,
+        &mut need,
+        &mut at,
+        &mut slope,
+    );
     advance(
         saved,
         budget,

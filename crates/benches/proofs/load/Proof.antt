@@ -53,7 +53,7 @@ add-zero-from : tie.Need-add-zero-from
 add-zero-from c = let r = room c in omega arith
 
 zero-from-requires : tie.Need-zero-from-requires
-zero-from-requires c κs = let r = room c in omega arith
+zero-from-requires c κs = let r = room c in (omega arith, omega arith)
 
 returns-2 : tie.Need-returns-2
 returns-2 c R t =

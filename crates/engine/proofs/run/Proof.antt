@@ -1,28 +1,28 @@
 -- `run`: after so many turns the lists stand for the bench that a run of as many steps leaves, and each of them was taken.
-use Prim.Native.Nat.{ℕ, _≤_, _<_, _-_, _+_}
-use mathlib.Core.Path.{_≡_, refl, _∙_, sym}
+use Prim.Native.Nat.{ℕ, _≤_, _-_}
+use mathlib.Core.Path.{_≡_, _∙_, sym}
 use mathlib.Core.Bool.{true, false, not}
 use native.Mathlib.Omega.{arith}
 use lib.ListN.{length}
-use borrow.Author.Needs.{needs}
 use Rattle.rules.specs.Row.{Row}
 use Rattle.rules.specs.Steps.{Bench as Meant, finished, run, stepsTaken}
 use Rattle.slopes.specs.Runs.{run-zero, taken-zero, run-past, taken-past}
 use Rattle.engine.specs.Laid.{Laid}
-use Rattle.engine.specs.Stands.{Stands}
+use Rattle.engine.specs.Stands.{listsOf, Stands}
 use Rattle.engine.proofs.HandLaws.{not-yes, not-no}
 use Rattle.engine.proofs.RunLaws.{finished-is, run-next, taken-next}
 use Rattle.engine.proofs.run.Statement.{statement}
 use Rattle.engine.proofs.run.Tie as tie
 
 abbrev Inv-loop : tie.InvT-loop
-Inv-loop budget width count places held need at₀ slope₀ cells₀ edges₀ bench₀ steps₀ at slope cells edges bench steps =
+Inv-loop budget width count places held need at₀ slope₀ cells₀ edges₀ froms₀ tos₀ sums₀ bench₀ steps₀ at slope cells edges froms tos sums bench steps =
     (steps ≤ budget)
-    × ((R : Row) (b : Meant) → width ≡ R .width → count ≡ length (R .widths) → Laid R places held need → Stands R bench₀ cells₀ edges₀ at₀ slope₀ b
-    → Stands R bench cells edges at slope (run R steps b) × (stepsTaken R steps b ≡ steps))
+    × ((R : Row) (b : Meant) → width ≡ R .width → count ≡ length (R .widths) → Laid R places held need → Stands R bench₀ cells₀ edges₀
+    (listsOf froms₀ tos₀ sums₀) at₀ slope₀ b
+    → Stands R bench cells edges (listsOf froms tos sums) at slope (run R steps b) × (stepsTaken R steps b ≡ steps))
 
 abbrev μ-loop : tie.MeasureT-loop
-μ-loop budget width count places held need at₀ slope₀ cells₀ edges₀ bench₀ steps₀ at slope cells edges bench steps = budget - steps
+μ-loop budget width count places held need at₀ slope₀ cells₀ edges₀ froms₀ tos₀ sums₀ bench₀ steps₀ at slope cells edges froms tos sums bench steps = budget - steps
 
 loop-holds : tie.Need-loop-holds Inv-loop μ-loop
 loop-holds c = (omega arith, λ R b w n laid stands. (rw (run-zero R b) stands, taken-zero R b))
@@ -40,11 +40,14 @@ module _ (c : tie.After-finished Inv-loop μ-loop) where
 
   module _ (R : Row) (b : Meant) (w : begun .args .width ≡ R .width) (n : begun .args .count ≡ length (R .widths))
       (laid : Laid R (begun .args .places .now) (begun .args .held .now) (begun .args .need .now))
-      (stands : Stands R (begun .args .from) (begun .args .cells .now) (begun .args .edges .now) (begun .args .at .now) (begun .args .slope .now) b) where
+      (stands : Stands R (begun .args .from) (begun .args .cells .now) (begun .args .edges .now)
+      (listsOf (begun .args .froms .now) (begun .args .tos .now) (begun .args .sums .now))
+      (begun .args .at .now) (begun .args .slope .now) b) where
     test-is : c .finished .result ≡ finished R (run R taken b)
     test-is =
         let l = c .before .before .loop in
-        c .finished .ensures ∙ finished-is R (begun .args .count) (l .bench) (l .cells) (l .edges) (l .at) (l .slope) (run R taken b) n (l .inv .1 R b w n laid stands .0)
+        c .finished .ensures ∙ finished-is R (begun .args .count) (l .bench) (l .cells) (l .edges) (listsOf (l .froms) (l .tos) (l .sums)) (l .at)
+        (l .slope) (run R taken b) n (l .inv .1 R b w n laid stands .0)
 
     goes-on : not (c .finished .result) ≡ true → finished R (run R taken b) ≡ false
     goes-on t = sym test-is ∙ not-yes (c .finished .result) t
@@ -54,7 +57,7 @@ module _ (c : tie.After-finished Inv-loop μ-loop) where
 
 step-requires : tie.Need-step-requires Inv-loop μ-loop
 step-requires c κs =
-    let d = c .before .before .before .before .before in
+    let d = c .before .before .before .before .before .before .before .before in
     let r = begun d .pre .ready in
     let n = begun d .pre .count-is in
     record {
@@ -66,7 +69,8 @@ step-requires c κs =
             laid = r .laid;
             stands = d .before .before .loop .inv .1 (r .row) (r .bench) (r .width-is) n (r .laid) (r .stands) .0;
           };
-      unfinished = goes-on d (r .row) (r .bench) (r .width-is) n (r .laid) (r .stands) (c .before .before .before .before .if1 .taken);
+      unfinished = goes-on d (r .row) (r .bench) (r .width-is) n (r .laid) (r .stands)
+          (c .before .before .before .before .before .before .before .if1 .taken);
     }
 
 add-steps : tie.Need-add-steps Inv-loop μ-loop
@@ -79,9 +83,9 @@ loop-again : tie.Need-loop-again Inv-loop μ-loop
 loop-again c = (
   omega arith,
   λ R b w n laid stands.
-      let d = c .before .before .before .before .before .before in
+      let d = c .before .before .before .before .before .before .before .before .before in
       let old = d .before .before .loop .inv .1 R b w n laid stands in
-      let f = goes-on d R b w n laid stands (c .before .before .before .before .before .if1 .taken) in
+      let f = goes-on d R b w n laid stands (c .before .before .before .before .before .before .before .before .if1 .taken) in
       (rw (run-next R (taken d) b f) (c .step .ensures R (run R (taken d) b) w laid (old .0) f), taken-next R (taken d) b f (old .1)),
 )
 

@@ -13,7 +13,7 @@ use Rattle.rules.specs.Calls.{Outcome, placementCall, placed}
 use Rattle.rules.specs.Bench.{inForm, benchOf}
 use Rattle.rules.specs.Steps.{finished}
 use Rattle.reading.specs.Reads.{Holds}
-use Rattle.reading.specs.ReadsLaws.{said-refused, said-taken}
+use Rattle.reading.specs.ReadsLaws.{said-refused, said-taken, holds-parts}
 use Rattle.placing.specs.PlacedAs.{PlacedAs}
 use Rattle.lugsheet.specs.CallLaws.{placement-refused, placement-bench-room, placement-room, placement-form, placement-unfinished, placement-done}
 use Rattle.lugsheet.proofs.lugsheet_placement.Statement.{statement}
@@ -77,7 +77,7 @@ right-length : (c : tie.Else2) → length (c .before .before .before .before .be
 right-length c = c .if2 .left ∙ ap (λ (n : ℕ). 4 * n) (the-row (c .before .before) .1 .1 .cells)
 
 place-requires : tie.Need-place-requires
-place-requires c κs = let t = the-row (c .before .before .before) in (c .before .before .if1 .left, (t .0, (t .1 .1, right-length (c .before))))
+place-requires c κs = let t = the-row (c .before .before .before .before .before .before) in (c .before .before .before .before .before .if1 .left, (t .0, (holds-parts _ (t .0) (t .1 .1), right-length (c .before .before .before .before))))
 
 refused-requires-4 : tie.Need-refused-requires-4
 refused-requires-4 c κs = search needs
@@ -96,11 +96,11 @@ both-false false y e f = cc
 
 returns-4 : tie.Need-returns-4
 returns-4 c =
-    let t = the-row (c .before .before .before .before .before .before .before .before .before) in
-    let a = c .before .before .before .before .before .before .before .before .before .before .before .before .before .before .before .args in
-    let done = c .before .before .before .before .before .place .ensures (t .0) (t .1 .1) in
-    let room = c .before .before .before .before .before .before .before .before .if1 .left in
-    let long = right-length (c .before .before .before .before .before .before .before) in
+    let t = the-row (c .before .before .before .before .before .before .before .before .before .before .before .before) in
+    let a = c .before .before .before .before .before .before .before .before .before .before .before .before .before .before .before .before .before .before .args in
+    let done = c .before .before .before .before .before .place .ensures (t .0) (holds-parts _ (t .0) (t .1 .1)) in
+    let room = c .before .before .before .before .before .before .before .before .before .before .before .if1 .left in
+    let long = right-length (c .before .before .before .before .before .before .before .before .before .before) in
     let form = sym (done .form) ∙ not-true _ (c .before .if3 .taken) in
     let e = placement-form (a .row .now) (a .bench .now) (a .placement .now) (t .0) (t .1 .0) room long form in
     (c .refused4 .ensures ∙ sym (ap (λ (o : Outcome). o .answer) e), done .kept (done .ends ∙ rw form refl) ∙ sym (ap (λ (o : Outcome). o .buffer) e))
@@ -113,11 +113,11 @@ same-length-2 c = search needs
 
 returns-5 : tie.Need-returns-5
 returns-5 c =
-    let t = the-row (c .before .before .before .before .before .before .before .before .before .before .before) in
-    let a = c .before .before .before .before .before .before .before .before .before .before .before .before .before .before .before .before .before .args in
-    let done = c .before .before .before .before .before .before .before .place .ensures (t .0) (t .1 .1) in
-    let room = c .before .before .before .before .before .before .before .before .before .before .if1 .left in
-    let long = right-length (c .before .before .before .before .before .before .before .before .before) in
+    let t = the-row (c .before .before .before .before .before .before .before .before .before .before .before .before .before .before) in
+    let a = c .before .before .before .before .before .before .before .before .before .before .before .before .before .before .before .before .before .before .before .before .args in
+    let done = c .before .before .before .before .before .before .before .place .ensures (t .0) (holds-parts _ (t .0) (t .1 .1)) in
+    let room = c .before .before .before .before .before .before .before .before .before .before .before .before .before .if1 .left in
+    let long = right-length (c .before .before .before .before .before .before .before .before .before .before .before .before) in
     let form = sym (done .form) ∙ not-false _ (c .before .before .before .if3 .left) in
     let unfinished = not-true _ (c .before .if4 .taken) in
     let e =
@@ -131,11 +131,11 @@ same-length-3 c = search needs
 returns-6 : tie.Need-returns-6
 unfolding placed
 returns-6 c =
-    let t = the-row (c .before .before .before .before .before .before .before .before .before .before) in
-    let a = c .before .before .before .before .before .before .before .before .before .before .before .before .before .before .before .before .args in
-    let done = c .before .before .before .before .before .before .place .ensures (t .0) (t .1 .1) in
-    let room = c .before .before .before .before .before .before .before .before .before .if1 .left in
-    let long = right-length (c .before .before .before .before .before .before .before .before) in
+    let t = the-row (c .before .before .before .before .before .before .before .before .before .before .before .before .before) in
+    let a = c .before .before .before .before .before .before .before .before .before .before .before .before .before .before .before .before .before .before .before .args in
+    let done = c .before .before .before .before .before .before .place .ensures (t .0) (holds-parts _ (t .0) (t .1 .1)) in
+    let room = c .before .before .before .before .before .before .before .before .before .before .before .before .if1 .left in
+    let long = right-length (c .before .before .before .before .before .before .before .before .before .before .before) in
     let form = sym (done .form) ∙ not-false _ (c .before .before .if3 .left) in
     let ended = not-false _ (c .if4 .left) in
     let e =

@@ -10,7 +10,7 @@ use Rattle.rules.specs.Row.{Row}
 use Rattle.rules.specs.Calls.{Outcome, sliceCall, bit}
 use Rattle.rules.specs.Bench.{inForm}
 use Rattle.reading.specs.Reads.{Holds}
-use Rattle.reading.specs.ReadsLaws.{said-refused, said-taken}
+use Rattle.reading.specs.ReadsLaws.{said-refused, said-taken, holds-parts}
 use Rattle.slicing.specs.Sliced.{SlicedAs, Advanced, advanced-outcome}
 use Rattle.lugsheet.specs.CallLaws.{slice-refused, slice-room, slice-form, slice-done}
 use Rattle.lugsheet.proofs.lugsheet_slice.Statement.{statement}
@@ -57,7 +57,7 @@ returns-2 c =
     (c .refused2 .ensures ∙ sym (ap (λ (o : Outcome). o .answer) e), sym (ap (λ (o : Outcome). o .buffer) e))
 
 slice-requires : tie.Need-slice-requires
-slice-requires c κs = (c .before .if1 .left, let t = the-row (c .before .before) in (t .0, t .1 .1))
+slice-requires c κs = (c .before .before .before .before .if1 .left, let t = the-row (c .before .before .before .before .before) in (t .0, holds-parts _ (t .0) (t .1 .1)))
 
 refused-requires-3 : tie.Need-refused-requires-3
 refused-requires-3 c κs = search needs
@@ -67,11 +67,11 @@ same-length c = search needs
 
 returns-3 : tie.Need-returns-3
 returns-3 c =
-    let t = the-row (c .before .before .before .before .before .before .before .before) in
-    let a = c .before .before .before .before .before .before .before .before .before .before .before .before .before .args in
-    let done = c .before .before .before .before .before .slice .ensures (t .0) (t .1 .1) in
+    let t = the-row (c .before .before .before .before .before .before .before .before .before .before .before) in
+    let a = c .before .before .before .before .before .before .before .before .before .before .before .before .before .before .before .before .args in
+    let done = c .before .before .before .before .before .slice .ensures (t .0) (holds-parts _ (t .0) (t .1 .1)) in
     let form = sym (done .form) ∙ not-true _ (c .before .if2 .taken) in
-    let e = slice-form (a .row .now) (a .bench .now) (a .budget) (t .0) (t .1 .0) (c .before .before .before .before .before .before .before .if1 .left) form in
+    let e = slice-form (a .row .now) (a .bench .now) (a .budget) (t .0) (t .1 .0) (c .before .before .before .before .before .before .before .before .before .before .if1 .left) form in
     (c .refused3 .ensures ∙ sym (ap (λ (o : Outcome). o .answer) e), done .kept form ∙ sym (ap (λ (o : Outcome). o .buffer) e))
 
 sliced-answer-requires : tie.Need-sliced-answer-requires
@@ -82,13 +82,13 @@ same-length-2 c = search needs
 
 returns-4 : tie.Need-returns-4
 returns-4 c =
-    let t = the-row (c .before .before .before .before .before .before .before .before .before) in
-    let a = c .before .before .before .before .before .before .before .before .before .before .before .before .before .before .args in
+    let t = the-row (c .before .before .before .before .before .before .before .before .before .before .before .before) in
+    let a = c .before .before .before .before .before .before .before .before .before .before .before .before .before .before .before .before .before .args in
     let r = c .before .before .before .before .before .before .slice in
-    let done = r .ensures (t .0) (t .1 .1) in
+    let done = r .ensures (t .0) (holds-parts _ (t .0) (t .1 .1)) in
     let form = sym (done .form) ∙ not-false _ (c .before .before .if2 .left) in
-    let e = slice-done (a .row .now) (a .bench .now) (a .budget) (t .0) (t .1 .0) (c .before .before .before .before .before .before .before .before .if1 .left) form in
-    let o = advanced-outcome (t .0) (a .budget) (a .bench .now) (r .last .1 .0) (r .result) (done .moves form) ∙ sym e in
+    let e = slice-done (a .row .now) (a .bench .now) (a .budget) (t .0) (t .1 .0) (c .before .before .before .before .before .before .before .before .before .before .before .if1 .left) form in
+    let o = advanced-outcome (t .0) (a .budget) (a .bench .now) (r .last .1 .1 .1 .1 .1 .0) (r .result) (done .moves form) ∙ sym e in
     (c .sliced-answer .ensures ∙ ap (λ (o : Outcome). o .answer) o, ap (λ (o : Outcome). o .buffer) o)
 
 pub lugsheet-slice-spec : {M : Type 1} → statement M

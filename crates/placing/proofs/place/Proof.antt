@@ -10,7 +10,8 @@ use Rattle.rules.specs.Row.{Row}
 use Rattle.rules.specs.Steps.{finished}
 use Rattle.rules.specs.Bench.{benchOf, inForm}
 use Rattle.rules.specs.Calls.{positions, siteBytes}
-use Rattle.reading.specs.Reads.{Holds}
+use Rattle.reading.specs.Reads.{Holds, sheetOf}
+use Rattle.reading.specs.declared.Sheet.{Sheet}
 use Rattle.benches.specs.Saved.{Loaded}
 use Rattle.placing.specs.Puts.{Ready}
 use Rattle.placing.specs.PlacedLaws.{held-widths, held-told, finished-told, ready, after-measurable, after-measured, placed-unformed, placed-unfinished, placed-finished}
@@ -24,18 +25,22 @@ use Rattle.measuring.proofs.netlength.Reads as netlength-reads
 use Rattle.placing.proofs.is_finished.Reads as is-finished-reads
 use Rattle.placing.proofs.put_clumps.Reads as put-clumps-reads
 
+-- the row that was read, by what was kept of it
+abbrev sheet : tie.Start → Sheet
+sheet s = sheetOf (s .args .width) (s .args .cells) (s .args .nets) (s .args .widths .now) (s .args .net)
+
 places-requires : tie.Need-places-requires
 places-requires c κs =
-    let s = c .before .before .before .before in
+    let s = c .before .before in
     let held = s .pre .1 .1 .0 in
-    (omega (arith, held .cells, held .sound .few-cells), held-widths (s .args .t1) (s .pre .1 .0) held)
+    (omega (arith, held .cells, held .sound .few-cells), held-widths (sheet s) (s .pre .1 .0) held)
 
 load-requires : tie.Need-load-requires
 load-requires c κs = search needs
 
 -- where the bench was loaded, and the start of the function
 abbrev start : tie.After-load → tie.Start
-start c = c .before .before .before .before .before .before .before
+start c = c .before .before .before .before .before
 
 abbrev tested : tie.After-is-finished → tie.After-load
 tested c = c .before .before .before
@@ -44,12 +49,12 @@ abbrev told : tie.Else2 → tie.After-load
 told c = tested (c .before)
 
 abbrev put : tie.After-put-clumps → tie.Else2
-put c = c .before .before .before .before
+put c = c .before .before
 
 -- the bench, told for the row
-module _ (c : tie.After-load) (R : Row) (held : Holds (start c .args .t1) R) where
+module _ (c : tie.After-load) (R : Row) (held : Holds (sheet (start c)) R) where
   loaded : Loaded R (start c .args .bench .now) (c .load .result)
-  loaded = c .load .ensures R (held-told (start c .args .t1) R held (c .before .before .places .result) (c .before .before .places .ensures))
+  loaded = c .load .ensures R (held-told (sheet (start c)) R held (c .before .before .places .result) (c .before .before .places .ensures))
 
 returns : tie.Need-returns
 returns c R held =
@@ -61,12 +66,12 @@ is-finished-requires : tie.Need-is-finished-requires
 is-finished-requires c κs = search needs
 
 -- past the first test the bench is in form, and the second asks whether it is finished
-module _ (c : tie.After-is-finished) (R : Row) (held : Holds (start (tested c) .args .t1) R) where
+module _ (c : tie.After-is-finished) (R : Row) (held : Holds (sheet (start (tested c))) R) where
   form : inForm R (start (tested c) .args .bench .now) ≡ true
   form = sym (loaded (tested c) R held .form) ∙ not-false _ (c .before .if1 .left)
 
   asked : c .is-finished .result ≡ finished R (benchOf R (start (tested c) .args .bench .now))
-  asked = c .is-finished .ensures ∙ finished-told (start (tested c) .args .t1) R held _ (tested c .load .result) (loaded (tested c) R held) form
+  asked = c .is-finished .ensures ∙ finished-told (sheet (start (tested c))) R held _ (tested c .load .result) (loaded (tested c) R held) form
 
 returns-2 : tie.Need-returns-2
 returns-2 c R held =
@@ -75,28 +80,28 @@ returns-2 c R held =
     placed-unfinished R (a .bench .now) (a .placement .now) (form i R held) (sym (asked i R held) ∙ not-true _ (c .if2 .taken))
 
 -- past the second it is finished
-ends : (c : tie.Else2) (R : Row) → Holds (start (told c) .args .t1) R
+ends : (c : tie.Else2) (R : Row) → Holds (sheet (start (told c))) R
     → finished R (benchOf R (start (told c) .args .bench .now)) ≡ true
 ends c R held = sym (asked (c .before) R held) ∙ not-false _ (c .if2 .left)
 
-is-ready : (c : tie.Else2) (R : Row) → Holds (start (told c) .args .t1) R
+is-ready : (c : tie.Else2) (R : Row) → Holds (sheet (start (told c))) R
     → length (start (told c) .args .placement .now) ≡ 4 * length (R .widths)
     → Ready R (start (told c) .args .bench .now) (told c .load .result)
-    (start (told c) .args .t1 .widths)
+    (start (told c) .args .widths .now)
     (start (told c) .args .placement .now)
 is-ready c R held room =
     let i = c .before in
     let a = start (tested i) .args in
-    ready (a .t1) R held (a .bench .now) (tested i .load .result) (loaded (tested i) R held) (form i R held) (a .placement .now) room (ends c R held)
+    ready (sheet (start (tested i))) R held (a .bench .now) (tested i .load .result) (loaded (tested i) R held) (form i R held) (a .placement .now) room (ends c R held)
 
 put-clumps-requires : tie.Need-put-clumps-requires
 put-clumps-requires c κs =
-    let e = c .before .before .before in
+    let e = c .before in
     let s = start (told e) in
     (s .pre .1 .0, (s .args .bench .now, is-ready e (s .pre .1 .0) (s .pre .1 .1 .0) (s .pre .1 .1 .1)))
 
 -- the bytes that the clumps left are the positions
-written : (c : tie.After-put-clumps) (R : Row) → Holds (start (told (put c)) .args .t1) R
+written : (c : tie.After-put-clumps) (R : Row) → Holds (sheet (start (told (put c)))) R
     → length (start (told (put c)) .args .placement .now) ≡ 4 * length (R .widths)
     → c .put-clumps .last .1 .1 .0 ≡ siteBytes (positions R (benchOf R (start (told (put c)) .args .bench .now)))
 written c R held room =
@@ -104,19 +109,19 @@ written c R held room =
 
 netlength-requires : tie.Need-netlength-requires
 netlength-requires c κs =
-    let u = c .before .before .before .before in
+    let u = c .before .before .before in
     let e = put u in
     let s = start (told e) in
     let R = s .pre .1 .0 in
     let held = s .pre .1 .1 .0 in
-    (R .widths, after-measurable (s .args .t1) R held (s .args .bench .now) (form (e .before) R held) (ends e R held) (u .put-clumps .last .1 .1 .0) (written u R held (s .pre .1 .1 .1)))
+    (R .widths, after-measurable (sheet s) R held (s .args .bench .now) (form (e .before) R held) (ends e R held) (u .put-clumps .last .1 .1 .0) (written u R held (s .pre .1 .1 .1)))
 
 same-length : tie.Need-same-length
 same-length c = search needs
 
 returns-3 : tie.Need-returns-3
 returns-3 c R held =
-    let u = c .before .before .before .before .before in
+    let u = c .before .before .before .before in
     let e = put u in
     let s = start (told e) in
     let bench = s .args .bench .now in
@@ -125,8 +130,8 @@ returns-3 c R held =
     let w = written u R held room in
     let yes-form = form (e .before) R held in
     placed-finished R bench (s .args .placement .now) yes-form after (c .netlength .result) (ends e R held) w
-    (c .netlength .ensures (R .widths) (after-measurable (s .args .t1) R held bench yes-form (ends e R held) after w)
-    ∙ after-measured (s .args .t1) R held bench yes-form (ends e R held) after w)
+    (c .netlength .ensures (R .widths) (after-measurable (sheet s) R held bench yes-form (ends e R held) after w)
+    ∙ after-measured (sheet s) R held bench yes-form (ends e R held) after w)
 
 pub place-spec : {M : Type 1} → statement M
 place-spec =

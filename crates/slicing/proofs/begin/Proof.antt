@@ -25,8 +25,8 @@ element-copy-out-wide c = search needs
 wide-requires : tie.Need-wide-requires
 wide-requires c κs = search needs
 
-sub-t13 : tie.Need-sub-t13
-sub-t13 c = omega (arith, c .wide .ensures, rw (in-hand (c .before .before)) at (c .before .before .before .pre .2))
+sub-t14 : tie.Need-sub-t14
+sub-t14 c = omega (arith, c .wide .ensures, rw (in-hand (c .before .before)) at (c .before .before .before .pre .2))
 
 returns-2 : tie.Need-returns-2
 returns-2 c = rw (in-hand (c .before .before), c .wide .ensures) refl
@@ -34,4 +34,4 @@ returns-2 c = rw (in-hand (c .before .before), c .wide .ensures) refl
 pub begin-spec : {M : Type 1} → statement M
 begin-spec =
     tie.close
-    (tie.spec returns sub-last mul-wide element-copy-out-wide wide-requires sub-t13 returns-2)
+    (tie.spec returns sub-last mul-wide element-copy-out-wide wide-requires sub-t14 returns-2)

@@ -7,29 +7,34 @@ use borrow.Author.Needs.{needs}
 use borrow.Author.Tests.{not-true, not-false}
 use Rattle.rules.specs.Row.{Row}
 use Rattle.rules.specs.Bench.{inForm}
-use Rattle.reading.specs.Reads.{Holds}
+use Rattle.reading.specs.Reads.{Holds, sheetOf}
+use Rattle.reading.specs.declared.Sheet.{Sheet}
 use Rattle.benches.specs.Saved.{Loaded}
 use Rattle.slicing.specs.Begun.{Begins}
 use Rattle.slicing.specs.LaidLaws.{few-cells, width-near, told, nets-ready, near-places, row-laid, row-apiece}
 use Rattle.slicing.proofs.slice.Statement.{statement}
 use Rattle.slicing.proofs.slice.Tie as tie
 
+-- the row that was read, by what was kept of it
+abbrev sheet : tie.Start → Sheet
+sheet s = sheetOf (s .args .width) (s .args .count) (s .args .nets) (s .args .widths .now) (s .args .net)
+
 places-requires : tie.Need-places-requires
 places-requires c κs =
-    let s = c .before .before .before in
+    let s = c .before in
     let R = s .pre .1 .0 in
     let holds = s .pre .1 .1 in
-    (few-cells (s .args .t1) R holds, width-near (s .args .t1) R holds)
+    (few-cells (sheet s) R holds, width-near (sheet s) R holds)
 
 load-requires : tie.Need-load-requires
 load-requires c κs = search needs
 
 -- the bench is told by the row that the sheet holds
-loaded : (c : tie.After-load) (R : Row) → let s = c .before .before .before .before .before .before .before in Holds (s .args .t1) R
+loaded : (c : tie.After-load) (R : Row) → let s = c .before .before .before .before .before in Holds (sheet s) R
     → Loaded R (s .args .bench .now) (c .load .result)
 loaded c R holds =
-    let s = c .before .before .before .before .before .before .before in
-    c .load .ensures R (told (s .args .t1) R holds (c .before .before .before .places .ensures))
+    let s = c .before .before .before .before .before in
+    c .load .ensures R (told (sheet s) R holds (c .before .before .before .places .ensures))
 
 same-length : tie.Need-same-length
 same-length c = search needs
@@ -37,7 +42,7 @@ same-length c = search needs
 returns : tie.Need-returns
 returns c R holds =
     let d = c .before .before in
-    let s = d .before .before .before .before .before .before .before in
+    let s = d .before .before .before .before .before in
     let out : inForm R (s .args .bench .now) ≡ false = sym (loaded d R holds .form) ∙ not-true _ (c .if1 .taken) in
     record {
       form = sym out;
@@ -45,40 +50,31 @@ returns c R holds =
       moves = λ e. let z : _≡_ {A = ℕ} 0 1 = cc in absurd (omega arith);
     }
 
-of-requires : tie.Need-of-requires
-of-requires c κs =
-    let s = c .before .before .before .before .before .before .before .before .before .before in
-    nets-ready (s .args .t1) (s .pre .1 .0) (s .pre .1 .1)
-
-spread-requires : tie.Need-spread-requires
-spread-requires c κs =
-    let d = c .before .before .before .before .before .before in
-    let p = d .before .before .before .before .before .before .before in
-    let s = p .before .before .before .before in
+lay-out-requires : tie.Need-lay-out-requires
+lay-out-requires c κs =
+    let p = c .before .before .before .before .before .before .before .before .before .before in
+    let s = p .before .before in
     let R = s .pre .1 .0 in
     let holds = s .pre .1 .1 in
-    ((nets-ready (s .args .t1) R holds, d .of .ensures .0, near-places (s .args .t1) R holds (p .places .ensures)), (refl, refl))
+    ((nets-ready (sheet s) R holds, near-places (sheet s) R holds (p .places .ensures)), (refl, refl, refl, refl))
 
-abbrev laidOut : tie.After-spread → tie.After-of
-laidOut c = c .before .before .before .before .before .before .before
+abbrev read : tie.After-lay-out → tie.After-load
+read c = c .before .before .before .before .before .before .before .before
 
-abbrev read : tie.After-spread → tie.After-load
-read c = laidOut c .before .before .before .before
+abbrev first : tie.After-lay-out → tie.Start
+first c = read c .before .before .before .before .before
 
-abbrev first : tie.After-spread → tie.Start
-first c = read c .before .before .before .before .before .before .before
-
-form-true : (c : tie.After-spread) (R : Row) → Holds (first c .args .t1) R → inForm R (first c .args .bench .now) ≡ true
-form-true c R holds = sym (loaded (read c) R holds .form) ∙ not-false _ (laidOut c .before .before .if1 .left)
+form-true : (c : tie.After-lay-out) (R : Row) → Holds (sheet (first c)) R → inForm R (first c .args .bench .now) ≡ true
+form-true c R holds = sym (loaded (read c) R holds .form) ∙ not-false _ (c .before .before .before .before .before .before .if1 .left)
 
 -- all that the engine asks
-begins : (c : tie.After-spread) (R : Row) → Holds (first c .args .t1) R
-    → Begins R (first c .args .bench .now) (read c .load .result) (first c .args .t1 .width) (first c .args .t1 .cells) (read c .before .before .before .places .result)
-    (laidOut c .of .result .held) (laidOut c .of .result .need) (c .spread .last .1 .1 .1 .1 .1 .0) (c .spread .last .1 .1 .1 .1 .1 .1 .0)
+begins : (c : tie.After-lay-out) (R : Row) → Holds (sheet (first c)) R
+    → Begins R (first c .args .bench .now) (read c .load .result) (first c .args .width) (first c .args .count) (read c .before .before .before .places .result)
+    (c .lay-out .last .1 .1 .1 .1 .0) (c .lay-out .last .1 .1 .1 .1 .1 .0) (c .lay-out .last .1 .1 .1 .1 .1 .1 .0) (c .lay-out .last .1 .1 .1 .1 .1 .1 .1 .0)
 begins c R holds =
-    let h = first c .args .t1 in
+    let h = sheet (first c) in
     let p = read c .before .before .before .places .ensures in
-    let shares = laidOut c .of .ensures in
+    let shares = c .lay-out .ensures .0 in
     let form = form-true c R holds in
     record {
       wide = holds .width;
@@ -86,7 +82,7 @@ begins c R holds =
       form = form;
       tells = loaded (read c) R holds .tells form;
       laid = row-laid h R holds p (shares .0) (shares .1);
-      apiece = row-apiece h R holds p (shares .0) (shares .1) (c .spread .ensures);
+      apiece = row-apiece h R holds p (shares .0) (shares .1) (c .lay-out .ensures .1);
     }
 
 advance-requires : tie.Need-advance-requires
@@ -117,8 +113,7 @@ slice-spec =
     load-requires
     same-length
     returns
-    of-requires
-    spread-requires
+    lay-out-requires
     advance-requires
     same-length-2
     returns-2)
