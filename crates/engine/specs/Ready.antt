@@ -56,3 +56,13 @@ pub record Saved (width : ℕ) (places held : List ℕ) (e : Bench) (cells edges
   pub froms-long : length (ls .froms) ≡ mostCells
   pub tos-long : length (ls .tos) ≡ mostCells
   pub sums-long : length (ls .sums) ≡ mostCells
+
+-- such a bench of a row with so many cells
+pub record Resumes (count width : ℕ) (places held : List ℕ) (needs : List ℤ) (e : Bench) (cells edges : List ℕ) (xs ws : List ℤ) : Type 0 where
+  pub row : Row
+  pub bench : Meant
+  pub width-is : width ≡ row .width
+  pub count-is : count ≡ length (row .widths)
+  pub laid : Laid row places held needs
+  pub numbers : Numbers row e cells edges bench
+  pub apiece : Apiece row xs ws

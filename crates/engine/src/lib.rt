@@ -18,7 +18,7 @@ ghost use Rattle.engine.specs.Taken.{firstOfLast, endOfLast, lastPart, w
 ghost use Rattle.engine.specs.Best.{Spans, FoundIn, IsBest, Capped};
 ghost use Rattle.engine.specs.Laid.{Laid};
 ghost use Rattle.engine.specs.Stands.{listsOf, withPart, Apiece, Numbers, Stands};
-ghost use Rattle.engine.specs.Ready.{Unfinished, Counted, Found, Saved};
+ghost use Rattle.engine.specs.Ready.{Unfinished, Counted, Found, Saved, Resumes};
 use changes::Meeting;
 use changes::Part;
 use changes::arrange;
@@ -303,7 +303,7 @@ impl Bench {
     }
 
     // A bench that was loaded: the changes of each of its clumps, which lie cell by cell, are put in order again. That carries nothing.
-    pub fn remake(
+    fn remake(
         self,
         width: u32,
         places: &[u32; ENDS],
@@ -427,7 +427,7 @@ pub struct Ran {
 }
 
 // At most `budget` steps, until the bench is finished.
-pub fn run(
+fn run(
     from: Bench,
     budget: u32,
     width: u32,
@@ -468,4 +468,54 @@ pub fn run(
         bench: bench,
         steps: Steps(steps),
     }
+}
+
+// A bench that was loaded goes on: its clumps' changes are put in order again, and at most `budget` steps are taken.
+pub fn resume(
+    from: Bench,
+    budget: u32,
+    width: u32,
+    count: usize,
+    places: &[u32; ENDS],
+    held: &[usize; ENDS],
+    need: &[i64; ENDS],
+    at: &mut [i32; MOST_CHANGES],
+    slope: &mut [i64; MOST_CHANGES],
+    cells: &mut [u16; MOST_CELLS],
+    edges: &mut [u32; MOST_CELLS],
+) -> Ran
+    requires { ⌜ Resumes count width (now places) (now held) (now need) from (now cells) (now edges) (now at) (now slope) ⌝ }
+    ensures { λ r. ⌜ ((R : Row) (b : Meant) → width ≡ R .width → count ≡ length (R .widths) → Laid R (now (places .entry)) (now (held .entry)) (now (need .entry)) → Numbers R from (now (cells .entry)) (now (edges .entry)) b → Apiece R (now (at .entry)) (now (slope .entry)) → Numbers R (r .bench) (now (cells .exit)) (now (edges .exit)) (run R budget b) × (r .steps .0 ≡ stepsTaken R budget b)) ⌝ }
+{
+    let mut froms = [0usize; MOST_CELLS];
+    let mut tos = [0usize; MOST_CELLS];
+    let mut sums = [0i64; MOST_CELLS];
+    let made = from.remake(
+        width,
+        places,
+        held,
+        at,
+        slope,
+        cells,
+        edges,
+        &mut froms,
+        &mut tos,
+        &mut sums,
+    );
+    run(
+        made,
+        budget,
+        width,
+        count,
+        places,
+        held,
+        need,
+        at,
+        slope,
+        cells,
+        edges,
+        &mut froms,
+        &mut tos,
+        &mut sums,
+    )
 }

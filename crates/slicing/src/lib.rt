@@ -17,7 +17,7 @@ use benches::load;
 use benches::store;
 use changes::Part;
 use engine::Bench;
-use engine::run;
+use engine::resume;
 use layout::lay_out;
 use layout::places;
 use nets::Net;
@@ -99,7 +99,7 @@ fn save(left: Bench, cells: &mut [u16; MOST_CELLS], edges: &mut [u32; MOST_CELLS
     store(bench, left.opened, true, place + 1, carried, cells, edges);
 }
 
-// From a bench that was loaded, with the row's changes laid out: its clumps are sorted again, steps are taken, and what they leave is written.
+// From a bench that was loaded, with the row's changes laid out: steps are taken, and what they leave is written.
 fn advance(
     saved: Saved,
     budget: u32,
@@ -119,23 +119,8 @@ fn advance(
     let mut edges = saved.edges;
     let carried = saved.carried;
     let from = begin(saved.opened, saved.held, saved.clumps, carried, &cells);
-    let mut froms = [0usize; MOST_CELLS];
-    let mut tos = [0usize; MOST_CELLS];
-    let mut sums = [0i64; MOST_CELLS];
-    let made = from.remake(
-        width,
-        places,
-        held,
-        at,
-        slope,
-        &cells,
-        &edges,
-        &mut froms,
-        &mut tos,
-        &mut sums,
-    );
-    let ran = run(
-        made,
+    let ran = resume(
+        from,
         budget,
         width,
         count,
@@ -146,9 +131,6 @@ fn advance(
         slope,
         &mut cells,
         &mut edges,
-        &mut froms,
-        &mut tos,
-        &mut sums,
     );
     let left = ran.bench;
     save(left, &mut cells, &mut edges, bench);
