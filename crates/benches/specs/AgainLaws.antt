@@ -16,10 +16,9 @@ use Rattle.rules.specs.Row.{Row}
 use Rattle.rules.specs.Steps.{Clump, Hand, empty, holding, Bench}
 use Rattle.rules.specs.Bench.{handByte, handClump, handEdge, clumpsOf, parts, benchBytes, savedHand, savedClumps, savedCells, cellsBefore, benchOf, allZero, apart, inForm}
 use Rattle.slopes.specs.Forgotten.{cellsIn, AllMade, allClumps, Proper, Says, SaysBench, bench-again}
-use Rattle.slopes.specs.Apart.{proper-clumps}
+use Rattle.slopes.specs.Apart.{apart-end, apart-rest, proper-clumps}
 use Rattle.benches.specs.Saved.{headBytes}
 use Rattle.benches.specs.ZeroLaws.{all-zero}
-use Rattle.benches.specs.ApartLaws.{apart-within, apart-rest}
 use Rattle.benches.specs.FormLaws.{in-form, settled-are, hand-edge-is}
 use Rattle.benches.specs.StoreLaws.{head-length, parts-length, parts-snoc, bench-bytes}
 
@@ -51,7 +50,7 @@ EdgesBelow limit (c ∷ cs) = (c .edge < limit) × EdgesBelow limit cs
 
 apart-edges : (width limit : ℕ) (cs : List Clump) → apart width cs ≡ true → width < limit → EdgesBelow limit cs
 apart-edges width limit [] h l = tt
-apart-edges width limit (c ∷ cs) h l = (omega (arith, apart-within width c cs h), apart-edges width limit cs (apart-rest width c cs h) l)
+apart-edges width limit (c ∷ cs) h l = (omega (arith, apart-end width (c ∷ cs) h), apart-edges width limit cs (apart-rest width c cs h) l)
 
 says-each :
     (s head : List ℕ) → length head ≡ headSize →

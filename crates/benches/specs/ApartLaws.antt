@@ -7,42 +7,15 @@ use native.Mathlib.Omega.{arith}
 use native.Mathlib.Nat.{eq-or-lt-of-le, le-of-suc-le-suc}
 use mathlib.Core.Logic.{⊎-elim}
 use lib.Dec.{leb}
-use borrow.Author.Tests.{le-leb, leb-true}
 use Rattle.rules.specs.Row.{Row}
 use Rattle.rules.specs.Steps.{Clump, endOf}
 use Rattle.rules.specs.Bench.{savedEdge, clumpAt, clumpsTo, apart}
-use Rattle.benches.specs.BothLaws.{both-hold, both}
+use Rattle.slopes.specs.Forgotten.{both-right}
+use Rattle.slopes.specs.Apart.{apart-end, apart-rest, apart-more}
 
--- by another limit, not left of the last one's end
-apart-by : (limit edge : ℕ) (cs : List Clump) → apart limit cs ≡ true → endOf cs ≤ edge → apart edge cs ≡ true
+apart-after : (limit : ℕ) (c : Clump) (cs : List Clump) → apart limit (c ∷ cs) ≡ true → endOf cs ≤ c .edge
 unfolding apart
-apart-by limit edge [] h g = refl
-apart-by limit edge (c ∷ cs) h g =
-    both (leb (c .edge + c .width) edge) (apart (c .edge) cs) (le-leb _ _ g) (both-hold (leb (c .edge + c .width) limit) (apart (c .edge) cs) h .1)
-
-apart-end : (limit : ℕ) (cs : List Clump) → apart limit cs ≡ true → endOf cs ≤ limit
-unfolding apart
-apart-end limit [] h = omega arith
-apart-end limit (c ∷ cs) h = leb-true _ _ (both-hold (leb (c .edge + c .width) limit) (apart (c .edge) cs) h .0)
-
-module _ (limit : ℕ) (c : Clump) (cs : List Clump) where
-  pub apart-more : apart limit cs ≡ true → endOf cs ≤ c .edge → c .edge + c .width ≤ limit → apart limit (c ∷ cs) ≡ true
-  unfolding apart
-  apart-more h g w = both (leb (c .edge + c .width) limit) (apart (c .edge) cs) (le-leb _ _ w) (apart-by limit (c .edge) cs h g)
-
-  pub apart-within : apart limit (c ∷ cs) ≡ true → c .edge + c .width ≤ limit
-  apart-within h = apart-end limit (c ∷ cs) h
-
-  pub apart-after : apart limit (c ∷ cs) ≡ true → endOf cs ≤ c .edge
-  unfolding apart
-  apart-after h = apart-end (c .edge) cs (both-hold (leb (c .edge + c .width) limit) (apart (c .edge) cs) h .1)
-
-  pub apart-rest : apart limit (c ∷ cs) ≡ true → apart limit cs ≡ true
-  unfolding apart
-  apart-rest h =
-      let e = apart-after h in
-      let w = apart-within h in
-      apart-by (c .edge) limit cs (both-hold (leb (c .edge + c .width) limit) (apart (c .edge) cs) h .1) (omega arith)
+apart-after limit c cs h = apart-end (c .edge) cs (both-right (leb (c .edge + c .width) limit) (apart (c .edge) cs) h)
 
 -- where clump k stands: right of what is left of it, and by the limit
 pub record Stands (R : Row) (s : List ℕ) (limit k : ℕ) : Type 0 where
@@ -57,7 +30,7 @@ module _ (R : Row) (s : List ℕ) (limit : ℕ) where
       ⊎-elim
       (λ (e : k ≡ n).
       subst (λ (j : ℕ). Stands R s limit j) (sym e)
-      (record { after = apart-after limit (clumpAt R s n) (clumpsTo R s n) h; within = apart-within limit (clumpAt R s n) (clumpsTo R s n) h }))
+      (record { after = apart-after limit (clumpAt R s n) (clumpsTo R s n) h; within = apart-end limit (clumpAt R s n ∷ clumpsTo R s n) h }))
       (λ (lt : k < n). apart-stand n (apart-rest limit (clumpAt R s n) (clumpsTo R s n) h) k lt)
       (eq-or-lt-of-le (le-of-suc-le-suc l))
 

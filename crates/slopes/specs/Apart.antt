@@ -19,7 +19,7 @@ use Rattle.slopes.specs.Forgotten.{both-left, both-right, cellsIn, MadeA
 
 -- ---- apart by one limit and by another
 
-apart-end : (limit : ℕ) (cs : List Clump) → apart limit cs ≡ true → endOf cs ≤ limit
+pub apart-end : (limit : ℕ) (cs : List Clump) → apart limit cs ≡ true → endOf cs ≤ limit
 unfolding apart
 apart-end limit [] h = omega arith
 apart-end limit (c ∷ cs) h = leb-true (c .edge + c .width) limit (both-left (leb (c .edge + c .width) limit) (apart (c .edge) cs) h)
@@ -30,13 +30,13 @@ apart-by limit edge [] h g = refl
 apart-by limit edge (c ∷ cs) h g =
     rw (le-leb (c .edge + c .width) edge g) (both-right (leb (c .edge + c .width) limit) (apart (c .edge) cs) h)
 
-apart-rest : (limit : ℕ) (c : Clump) (cs : List Clump) → apart limit (c ∷ cs) ≡ true → apart limit cs ≡ true
+pub apart-rest : (limit : ℕ) (c : Clump) (cs : List Clump) → apart limit (c ∷ cs) ≡ true → apart limit cs ≡ true
 unfolding apart
 apart-rest limit c cs h =
     let r : apart (c .edge) cs ≡ true = both-right (leb (c .edge + c .width) limit) (apart (c .edge) cs) h in
     apart-by (c .edge) limit cs r (omega (arith, apart-end (c .edge) cs r, apart-end limit (c ∷ cs) h))
 
-apart-more : (limit : ℕ) (c : Clump) (cs : List Clump) → apart limit cs ≡ true → endOf cs ≤ c .edge → c .edge + c .width ≤ limit → apart limit (c ∷ cs) ≡ true
+pub apart-more : (limit : ℕ) (c : Clump) (cs : List Clump) → apart limit cs ≡ true → endOf cs ≤ c .edge → c .edge + c .width ≤ limit → apart limit (c ∷ cs) ≡ true
 unfolding apart
 apart-more limit c cs h g w = rw (le-leb (c .edge + c .width) limit w) (apart-by limit (c .edge) cs h g)
 
