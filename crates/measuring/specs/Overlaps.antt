@@ -1,10 +1,9 @@
 -- Looking for the first cell that overlaps, cell by cell: what is still to be looked at answers the same as the whole placement.
 use Prim.Native.Nat.{ℕ, zero, suc, _+_, _-_, _*_, _≤_, _<_}
-use native.Mathlib.Nat.{mul-zero}
 use native.Mathlib.Omega.{arith}
-use mathlib.Core.Path.{_≡_, refl, ap, sym, _∙_}
-use mathlib.Core.Bool.{Bool, true, false, cond, _||_}
-use mathlib.Core.List.{List, [], _∷_}
+use mathlib.Core.Path.{_≡_, refl, _∙_}
+use mathlib.Core.Bool.{cond, _||_}
+use mathlib.Core.List.{List, _∷_}
 use lib.ListN.{length, getD, drop}
 use lib.Seq.{drop-cons, drop-length}
 use lib.Dec.{ltb}
@@ -25,11 +24,6 @@ sites-at s at (suc n) zero h = let e : at + 4 * 0 ≡ at = omega arith in rw e r
 sites-at s at (suc n) (suc i) h =
     let e : at + 4 * suc i ≡ at + 4 + 4 * i = omega arith in
     rw e (sites-at s (at + 4) n i (omega arith))
-
-pub sites-length : (s : List ℕ) (at n : ℕ) → length (sitesFrom s at n) ≡ n
-unfolding sitesFrom
-sites-length s at zero = refl
-sites-length s at (suc n) = ap suc (sites-length s (at + 4) n)
 
 module _ (W : ℕ) (ws s : List ℕ) where
   -- the first overlap at cell i or after it, with the cell before it ending at `end`

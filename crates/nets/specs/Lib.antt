@@ -1,5 +1,6 @@
 -- What is kept of a net, and what one pin more changes in it (Summary, Turns); its span and netlength by that (Span).
--- The other files are laws: of one pin more (Counted, Lists, TurnLaws), and of spans (Sides, Apart, Members, SpanLaws, LengthLaws).
+-- The other files are laws: of one pin more (Counted, Lists, TurnLaws), of spans (Sides, Apart, Members, SpanLaws, LengthLaws),
+-- and of placements in which cells overlap (OverlapLaws).
 pub mod Summary
 pub mod Turns
 pub mod Counted
@@ -11,3 +12,4 @@ pub mod Apart
 pub mod Members
 pub mod SpanLaws
 pub mod LengthLaws
+pub mod OverlapLaws

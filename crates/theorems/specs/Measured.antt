@@ -1,14 +1,14 @@
--- Measuring (document 01, "What the broker calls"): no cell overlaps exactly where a placement is legal, a legal placement has bytes that say it,
--- and the netlength of a legal placement of a row that was read is small.
-use Prim.Native.Nat.{ℕ, zero, suc, _+_, _*_, _^_, _≤_, _<_}
+-- Measuring (document 01, "What the broker calls"): no cell overlaps where a placement is legal, a legal placement has bytes that say it, and
+-- the netlength of a legal placement of a row that was read is small.
+use Prim.Native.Nat.{ℕ, suc, _+_, _*_, _^_, _≤_, _<_}
 use mathlib.Core.Path.{_≡_, refl, sym, ap, _∙_}
 use mathlib.Core.Logic.{⊎-elim}
 use mathlib.Core.List.{List, [], _∷_, _++_, append-assoc, List·Memᴰ as In, List·Memᴰ·head as here, List·Memᴰ·tail as there, List·Memᴰ·not-nil as not-nil, List·Memᴰ·cases-cons as cases-cons}
-use mathlib.Core.Bool.{Bool, true, false, cond, _||_}
+use mathlib.Core.Bool.{true}
 use native.Mathlib.Omega.{arith}
-use borrow.Author.Tests.{le-leb, ltb-false, le-ltb, leb-true}
+use borrow.Author.Tests.{le-ltb, leb-true}
 use lib.ListN.{length, getD, length-append, List·getD-eq-default}
-use lib.Dec.{leb, ltb}
+use lib.Dec.{leb}
 use Rattle.numbers.specs.Bytes.{u32Bytes}
 use Rattle.numbers.specs.BytesLaws.{u32-read-after}
 use Rattle.rules.specs.Sizes.{widest, heaviest}
@@ -26,9 +26,8 @@ use Rattle.theory.specs.Order.{by-order}
 use Rattle.theorems.specs.LegalReach.{no-truth, legal-rises}
 use Rattle.theorems.specs.Balance.{sound-kept}
 
--- ---- the first cell that overlaps
+-- ---- no cell overlaps where a placement is legal
 
--- there is none where a placement is legal
 legal-no-overlap : (W i from : ℕ) (ws ps : List ℕ) → legalFrom W from ws ps ≡ true → overlapFrom W i from ws ps ≡ i + length ws
 unfolding legalFrom overlapFrom
 legal-no-overlap W i from [] [] l = omega arith
@@ -39,42 +38,9 @@ legal-no-overlap W i from (w ∷ ws) (p ∷ ps) l =
     rw (le-ltb p from first, le-ltb W (p + w) (ends-within W from (w ∷ ws) (p ∷ ps) l 0 (omega arith)))
     (omega (arith, legal-no-overlap W (suc i) (p + w) ws ps (both-right (leb from p) (legalFrom W (p + w) ws ps) l)))
 
-no-overlap-legal : (W i from : ℕ) (ws ps : List ℕ) → length ps ≡ length ws → from ≤ W → overlapFrom W i from ws ps ≡ i + length ws
-    → legalFrom W from ws ps ≡ true
-unfolding legalFrom overlapFrom
-no-overlap-legal W i from [] [] n h e = le-leb from W h
-no-overlap-legal W i from [] (p ∷ ps) n h e = absurd (omega arith)
-no-overlap-legal W i from (w ∷ ws) [] n h e = absurd (omega arith)
-no-overlap-legal W i from (w ∷ ws) (p ∷ ps) n h e = go (ltb p from) (ltb W (p + w)) refl refl e (λ l f. no-overlap-legal W (suc i) (p + w) ws ps (omega arith) l f)
-  where
-    go : (s t : Bool) → ltb p from ≡ s → ltb W (p + w) ≡ t → cond (s || t) i (overlapFrom W (suc i) (p + w) ws ps) ≡ i + suc (length ws)
-        → (p + w ≤ W → overlapFrom W (suc i) (p + w) ws ps ≡ suc i + length ws → legalFrom W (p + w) ws ps ≡ true)
-        → legalFrom W from (w ∷ ws) (p ∷ ps) ≡ true
-    go true t a b e f = absurd (omega arith)
-    go false true a b e f = absurd (omega arith)
-    go false false a b e f = rw (le-leb from p (ltb-false p from a)) (f (ltb-false W (p + w) b) (omega arith))
-
-overlap-most : (W i from : ℕ) (ws ps : List ℕ) → overlapFrom W i from ws ps ≤ i + length ws
-unfolding overlapFrom
-overlap-most W i from [] ps = omega arith
-overlap-most W i from (w ∷ ws) [] = omega arith
-overlap-most W i from (w ∷ ws) (p ∷ ps) = go (ltb p from || ltb W (p + w)) (overlap-most W (suc i) (p + w) ws ps)
-  where
-    go : (t : Bool) → overlapFrom W (suc i) (p + w) ws ps ≤ suc i + length ws → cond t i (overlapFrom W (suc i) (p + w) ws ps) ≤ i + suc (length ws)
-    go true h = omega arith
-    go false h = omega arith
-
 pub no-overlap : (R : Row) (ps : List ℕ) → legal R ps ≡ true → overlap R ps ≡ length (R .widths)
 unfolding legal overlap
 no-overlap R ps l = legal-no-overlap (R .width) 0 0 (R .widths) ps l ∙ omega arith
-
-pub none-legal : (R : Row) (ps : List ℕ) → length ps ≡ length (R .widths) → overlap R ps ≡ length (R .widths) → legal R ps ≡ true
-unfolding legal overlap
-none-legal R ps n e = no-overlap-legal (R .width) 0 0 (R .widths) ps n (omega arith) (e ∙ omega arith)
-
-pub overlap-place : (R : Row) (ps : List ℕ) → overlap R ps ≤ length (R .widths)
-unfolding overlap
-overlap-place R ps = omega (arith, overlap-most (R .width) 0 0 (R .widths) ps)
 
 -- ---- positions as bytes
 
@@ -82,11 +48,6 @@ pub bytes-length : (ps : List ℕ) → length (siteBytes ps) ≡ 4 * length ps
 unfolding siteBytes
 bytes-length [] = omega arith
 bytes-length (p ∷ ps) = omega (arith, bytes-length ps)
-
-pub sites-length : (s : List ℕ) (at k : ℕ) → length (sitesFrom s at k) ≡ k
-unfolding sitesFrom
-sites-length s at zero = refl
-sites-length s at (suc k) = ap suc (sites-length s (at + 4) k)
 
 sites-after : (before ps : List ℕ) → ((i : ℕ) → getD ps i 0 < 4294967296) → sitesFrom (before ++ siteBytes ps) (length before) (length ps) ≡ ps
 unfolding sitesFrom siteBytes

@@ -19,12 +19,13 @@ use Rattle.rules.specs.Calls.{Outcome, refuse, withRow, given, bit, checkCall, 
 use Rattle.rules.specs.declared.Refusal.{Refusal}
 use Rattle.rules.specs.declared.Refusal.the-variants.{Cut, WrongMark, Tail, Range, Lonely, Full, Room, WrongBench, Unfinished, Overlap}
 use Rattle.slopes.specs.Runs.{taken-most}
+use Rattle.nets.specs.OverlapLaws.{overlap-most, none-legal, sites-length}
 use Rattle.reading.specs.Sound.{Sound}
 use Rattle.reading.specs.SoundLaws.{sound-read}
 use Rattle.theorems.specs.Terms.{ofRow, ofFresh, ofSlice, ofPlacement, ofMeasure, EndsWell, with-result, with-refusal}
 use Rattle.theorems.specs.Faults.{ReadWell, read-well}
 use Rattle.benches.specs.LegalLaws.{finished-legal}
-use Rattle.theorems.specs.Measured.{none-legal, overlap-place, sites-length, netlength-small}
+use Rattle.theorems.specs.Measured.{netlength-small}
 
 -- ---- how a call goes on
 
@@ -63,7 +64,7 @@ measured-well R s ps n = go (eqb (overlap R ps) (length (R .widths))) refl
     go true e = with-result (netlength-small R s ps (none-legal R ps n (eqb-true (overlap R ps) (length (R .widths)) e)))
     go false e =
         with-refusal Overlap (overlap R ps) (there (there (there (there (there (there (there (here refl))))))))
-        (omega (arith, overlap-place R ps, s .few-cells)) refl
+        (omega (arith, overlap-most R ps, s .few-cells)) refl
 
 -- ---- the calls
 

@@ -1,22 +1,22 @@
 -- `lugsheet_measure` meets its promise, by what reading the row, looking for an overlap and summing the nets promise.
 use borrow.Author.Needs.{needs}
-use Prim.Native.Nat.{ℕ, _*_, _≤_, _<_}
+use Prim.Native.Nat.{ℕ, _*_}
 use native.Mathlib.Omega.{arith}
-use mathlib.Core.Path.{_≡_, refl, ap, sym, _∙_}
+use mathlib.Core.Path.{_≡_, ap, sym, _∙_}
+use mathlib.Core.Bool.{true}
 use mathlib.Core.List.{List}
 use lib.ListN.{length}
 use Rattle.rules.specs.Reading.{readRow, taken}
 use Rattle.rules.specs.Row.{Row}
-use Rattle.rules.specs.Length.{overlap, overlapFrom}
+use Rattle.rules.specs.Length.{legal, overlap, overlapFrom}
 use Rattle.rules.specs.Calls.{sitesFrom}
 use Rattle.rules.specs.Refusals.{refusal}
 use Rattle.rules.specs.declared.Refusal.the-variants.{Overlap}
+use Rattle.nets.specs.OverlapLaws.{overlap-most, none-legal, sites-length}
 use Rattle.reading.specs.Reads.{Holds}
 use Rattle.reading.specs.ReadsLaws.{said-refused, said-taken}
-use Rattle.measuring.specs.Measures.{Widths, Measurable}
 use Rattle.lugsheet.specs.CallLaws.{measure-refused, measure-room, measure-overlap, measure-done}
 use Rattle.measuring.specs.HeldLaws.{measurable, measured-length}
-use Rattle.lugsheet.specs.Measured.{overlap-most, sites-legal}
 use Rattle.lugsheet.proofs.lugsheet_measure.Statement.{statement}
 use Rattle.lugsheet.proofs.lugsheet_measure.Tie as tie
 use Rattle.lugsheet.proofs.lugsheet_measure.Reads as reads
@@ -98,11 +98,15 @@ returns-3 c =
 
 -- past the search there is no overlap
 no-overlap : (c : tie.Else2) → overlap (the-row (c .before .before .before .before .before) .0) (sitesFrom (c .before .before .before .before .before .before .before .before .before .before .args .placement .now) 0 (length (the-row (c .before .before .before .before .before) .0 .widths))) ≡ length (the-row (c .before .before .before .before .before) .0 .widths)
-unfolding overlap
 no-overlap c =
     let t = the-row (c .before .before .before .before .before) in
     let a = c .before .before .before .before .before .before .before .before .before .before .args in
-    omega (arith, found (c .before), t .1 .1 .cells, overlap-most (t .0 .width) 0 0 (t .0 .widths) (sitesFrom (a .placement .now) 0 (length (t .0 .widths))))
+    omega (arith, found (c .before), t .1 .1 .cells, overlap-most (t .0) (sitesFrom (a .placement .now) 0 (length (t .0 .widths))))
+
+-- so what it passes can be measured
+sites-legal : (R : Row) (s : List ℕ) → overlap R (sitesFrom s 0 (length (R .widths))) ≡ length (R .widths)
+    → legal R (sitesFrom s 0 (length (R .widths))) ≡ true
+sites-legal R s none = none-legal R (sitesFrom s 0 (length (R .widths))) (sites-length s 0 (length (R .widths))) none
 
 netlength-requires : tie.Need-netlength-requires
 netlength-requires c κs =
