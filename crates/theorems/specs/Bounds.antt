@@ -1,5 +1,5 @@
 -- How many steps a run takes (demand 3): from a fresh bench at most 3n - 1, and then it is finished; and from any bench, also one that no run
--- left, a slice takes the smaller of its budget and the steps left. Nothing is asked of the row.
+-- left, a slice takes the smaller of its budget and the steps it takes to finish. Nothing is asked of the row.
 use mathlib.Core.Path.{_≡_, refl, sym, _∙_}
 use mathlib.Core.List.{List, [], _∷_}
 use mathlib.Core.Bool.{Bool, true, false}
@@ -65,24 +65,16 @@ module _ (R : Row) where
       go true e = e
       go false e = absurd (omega (arith, unfinished k b e .1))
 
-  -- the steps left
-  unfoldable pub stepsLeft : Bench → ℕ
-  stepsLeft b = stepsTaken R (ahead R b) b
-
-  pub left-any : (K : ℕ) (b : Bench) → ahead R b ≤ K → stepsTaken R K b ≡ stepsLeft b
-  unfolding stepsLeft
-  left-any K b h = taken-past R (ahead R b) K b h (run-ends (ahead R b) b (omega arith))
-
-  -- a slice takes the smaller of its budget and the steps left, and leaves the bench after that many
-  pub slice-takes : (budget : ℕ) (b : Bench) → stepsTaken R budget b ≡ min budget (stepsLeft b)
-  slice-takes budget b = go (finished R (run R budget b)) refl
+  -- a slice takes the smaller of its budget and the steps that any slice takes which finishes, and leaves the bench after that many
+  pub slice-takes : (budget enough : ℕ) (b : Bench) → finished R (run R enough b) ≡ true → stepsTaken R budget b ≡ min budget (stepsTaken R enough b)
+  slice-takes budget enough b ends = go (finished R (run R budget b)) refl
     where
-      longer : stepsTaken R (budget + ahead R b) b ≡ stepsLeft b
-      longer = left-any (budget + ahead R b) b (omega arith)
+      longer : stepsTaken R (budget + enough) b ≡ stepsTaken R enough b
+      longer = taken-past R enough (budget + enough) b (omega arith) ends
 
-      go : (t : Bool) → finished R (run R budget b) ≡ t → stepsTaken R budget b ≡ min budget (stepsLeft b)
-      go true e = omega (arith, longer, taken-past R budget (budget + ahead R b) b (omega arith) e, taken-most R budget b)
-      go false e = omega (arith, longer, taken-add R budget (ahead R b) b, unfinished budget b e .0)
+      go : (t : Bool) → finished R (run R budget b) ≡ t → stepsTaken R budget b ≡ min budget (stepsTaken R enough b)
+      go true e = omega (arith, longer, taken-past R budget (budget + enough) b (omega arith) e, taken-most R budget b)
+      go false e = omega (arith, longer, taken-add R budget enough b, unfinished budget b e .0)
 
   pub slice-leaves : (budget : ℕ) (b : Bench) → run R budget b ≡ run R (stepsTaken R budget b) b
   slice-leaves zero b = rw (taken-zero R b) refl
@@ -92,12 +84,6 @@ module _ (R : Row) where
           → run R (suc k) b ≡ run R (stepsTaken R (suc k) b) b
       go true e ih = rw (taken-finished R (suc k) b e, run-finished R (suc k) b e, run-zero R b) refl
       go false e ih = rw (taken-more R k b e, run-more R k b e, run-more R (stepsTaken R k (step R b)) b e) ih
-
-  -- after it so many fewer are left
-  pub left-after : (budget : ℕ) (b : Bench) → stepsTaken R budget b + stepsLeft (run R budget b) ≡ stepsLeft b
-  left-after budget b =
-      let K : ℕ = ahead R b + ahead R (run R budget b) in
-      omega (arith, taken-add R budget K b, left-any K (run R budget b) (omega arith), left-any (budget + K) b (omega arith))
 
   -- slices one after the other leave the bench of one run
   unfoldable pub slices : List ℕ → Bench → Bench

@@ -1,7 +1,7 @@
 -- Slices of a run from a fresh bench (demand 3): each takes the smaller of its budget and the steps left, and leaves the bench that the published
 -- steps give after that many.
-use Prim.Native.Nat.{ℕ, zero, suc, _≤_, _<_, min}
-use mathlib.Core.Path.{_≡_, refl, sym}
+use Prim.Native.Nat.{ℕ, zero, suc, _≤_, min}
+use mathlib.Core.Path.{_≡_, refl}
 use mathlib.Core.Logic.{_↔_}
 use mathlib.Core.Bool.{Bool, true, false}
 use native.Mathlib.Omega.{arith}
@@ -9,10 +9,8 @@ use lib.ListN.{length}
 use Rattle.rules.specs.Row.{Row}
 use Rattle.rules.specs.Steps.{Bench, step, finished, run, stepsTaken, mostSteps}
 use Rattle.rules.specs.Bench.{fresh}
-use Rattle.slopes.specs.Runs.{run-zero, taken-zero, run-finished, taken-finished, run-more, taken-more, taken-most, run-past, taken-past}
-use Rattle.theory.specs.Order.{by-order}
-use Rattle.theorems.specs.Bounds.{ahead, fresh-ahead, taken-ahead, run-ends, left-any, slice-takes, slice-leaves}
-use Rattle.theorems.specs.Bounds as Bounds
+use Rattle.slopes.specs.Runs.{run-zero, taken-zero, run-finished, taken-finished, run-more, taken-more, taken-most, run-past}
+use Rattle.theorems.specs.Bounds.{ahead, fresh-ahead, taken-ahead, run-ends, slice-takes, slice-leaves}
 use Rattle.theorems.specs.Terms.{steps, stepsLeft}
 
 module _ (R : Row) where
@@ -45,11 +43,7 @@ module _ (R : Row) where
   -- but not before
   left-needed : (k budget : ℕ) → finished R (run R budget (run R k fresh)) ≡ true → stepsLeft R (run R k fresh) ≤ budget
   unfolding stepsLeft
-  left-needed k budget f =
-      let b = run R k fresh in
-      by-order budget most
-      (λ (h : budget ≤ most). omega (arith, taken-past R budget most b h f, taken-most R budget b))
-      (λ (h : most < budget). omega (arith, taken-most R most b))
+  left-needed k budget f = omega (arith, slice-takes R most budget (run R k fresh) f, taken-most R budget (run R k fresh))
 
   pub finished-exactly : (k budget : ℕ) → (finished R (run R budget (run R k fresh)) ≡ true) ↔ (stepsLeft R (run R k fresh) ≤ budget)
   finished-exactly k budget = (
@@ -57,12 +51,6 @@ module _ (R : Row) where
     λ h. rw (run-past R (stepsLeft R (run R k fresh)) budget (run R k fresh) h (left-ends k)) (left-ends k),
   )
 
-  same-left : (k : ℕ) → stepsLeft R (run R k fresh) ≡ Bounds.stepsLeft R (run R k fresh)
-  unfolding stepsLeft Bounds.stepsLeft
-  same-left k =
-      let b = run R k fresh in
-      by-order (ahead R b) most (λ (h : ahead R b ≤ most). left-any R most b h)
-      (λ (h : most < ahead R b). sym (taken-past R most (ahead R b) b (omega arith) (most-ends k)))
-
   pub slice-takes-least : (k budget : ℕ) → stepsTaken R budget (run R k fresh) ≡ min budget (stepsLeft R (run R k fresh))
-  slice-takes-least k budget = rw (same-left k) (slice-takes R budget (run R k fresh))
+  unfolding stepsLeft
+  slice-takes-least k budget = slice-takes R budget most (run R k fresh) (most-ends k)
