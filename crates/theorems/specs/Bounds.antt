@@ -1,16 +1,14 @@
 -- How many steps a run takes (demand 3): from a fresh bench at most 3n - 1, and then it is finished; and from any bench, also one that no run
 -- left, a slice takes the smaller of its budget and the steps it takes to finish. Nothing is asked of the row.
-use mathlib.Core.Path.{_≡_, refl, sym, _∙_}
-use mathlib.Core.List.{List, [], _∷_}
+use mathlib.Core.Path.{_≡_, refl}
 use mathlib.Core.Bool.{Bool, true, false}
 use Prim.Native.Nat.{ℕ, zero, suc, _+_, _-_, _*_, _≤_, _<_, min}
 use native.Mathlib.Omega.{arith}
 use lib.ListN.{length}
 use Rattle.rules.specs.Row.{Row}
-use Rattle.rules.specs.Reading.{total}
 use Rattle.rules.specs.Steps.{Bench, step, finished, run, stepsTaken, mostSteps}
 use Rattle.rules.specs.Bench.{fresh, handByte}
-use Rattle.slopes.specs.Runs.{run-keeps, run-zero, taken-zero, run-finished, taken-finished, run-more, taken-more, taken-most, taken-fewer, run-add, taken-add, taken-past}
+use Rattle.slopes.specs.Runs.{run-keeps, run-zero, taken-zero, run-finished, taken-finished, run-more, taken-more, taken-most, taken-fewer, taken-add, taken-past}
 use Rattle.theory.specs.Order.{by-order}
 use Rattle.theorems.specs.Steps.{by-step}
 
@@ -84,16 +82,6 @@ module _ (R : Row) where
           → run R (suc k) b ≡ run R (stepsTaken R (suc k) b) b
       go true e ih = rw (taken-finished R (suc k) b e, run-finished R (suc k) b e, run-zero R b) refl
       go false e ih = rw (taken-more R k b e, run-more R k b e, run-more R (stepsTaken R k (step R b)) b e) ih
-
-  -- slices one after the other leave the bench of one run
-  unfoldable pub slices : List ℕ → Bench → Bench
-  slices [] b = b
-  slices (k ∷ ks) b = slices ks (run R k b)
-
-  pub slices-run : (ks : List ℕ) (b : Bench) → slices ks b ≡ run R (total ks) b
-  unfolding slices total
-  slices-run [] b = sym (run-zero R b)
-  slices-run (k ∷ ks) b = slices-run ks (run R k b) ∙ sym (run-add R k (total ks) b)
 
   -- ---- from a fresh bench
 
