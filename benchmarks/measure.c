@@ -344,6 +344,7 @@ static void slices(void)
         {.name = "one clump", .shape = OF_CELLS(ONE_CLUMP, 256, 75), .moment = FRESH},
         {.name = "one clump", .shape = OF_CELLS(ONE_CLUMP, 256, 75), .moment = MIDDLE},
         {.name = "one clump", .shape = OF_CELLS(ONE_CLUMP, 256, 75), .moment = LAST_STEP},
+        {.name = "one clump, 1 % full", .shape = {ONE_CLUMP, 256, 512, LUGSHEET_WIDTH_MAX, 1}, .moment = LAST_STEP},
     };
     table("One slice of one step", "rows | cells | bench | bytes | slice | check | whole run | slice : check | slice : whole run", lines,
           LENGTH(lines), methods);
