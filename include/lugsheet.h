@@ -3,8 +3,8 @@
  * Every call answers one uint64_t: a result, or a refusal (LUGSHEET_REFUSED is set). A refused call has written nothing. No call trusts
  * its caller: any bytes of any length may be handed in. Buffers handed to one call must not overlap; a buffer of length 0 still needs a
  * valid pointer. The library keeps nothing between calls: all that a run has done so far is in the caller's bench. So threads may call it at
- * the same time; a call takes less than 128 KB of stack (tested on the largest row, not proved). What is proved of each call is in docs/; this
- * header is not checked against the library by any proof.
+ * the same time; a slice takes at most 40 KB of stack and any other call at most 28 KB (tested on the largest row, not proved). What is proved of
+ * each call is in docs/; this header is not checked against the library by any proof.
  *
  * A whole run, with nothing else to do in between:
  *

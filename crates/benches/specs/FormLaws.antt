@@ -52,6 +52,15 @@ each-has-cells s zero all = refl
 each-has-cells s (suc n) all =
     both (allHaveCells s n) (leb 1 (savedCells s n)) (each-has-cells s n (λ k l. all k (omega arith))) (le-leb 1 (savedCells s n) (all n (omega arith)))
 
+-- so there are no more clumps than cells
+cells-least : (s : List ℕ) (n : ℕ) → ((k : ℕ) → k < n → 1 ≤ savedCells s k) → n ≤ cellsBefore s n
+unfolding cellsBefore
+cells-least s zero all = omega arith
+cells-least s (suc n) all = omega (arith, cells-least s n (λ k l. all k (omega arith)), all n (omega arith))
+
+pub clumps-least : {R : Row} {s : List ℕ} → Formed R s → savedClumps s ≤ savedOpened s
+clumps-least {R} {s} f = omega (arith, cells-least s (savedClumps s) (f .have-cells), f .add-up)
+
 -- ---- which clumps are settled, and which is in hand
 
 module _ (R : Row) (s : List ℕ) where

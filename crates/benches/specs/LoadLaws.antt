@@ -27,21 +27,21 @@ hand-is hand h =
     (λ (lt : hand < 1). rw (ne-eqb hand 1 (omega arith)) (omega arith))
     (eq-or-lt-of-le h)
 
-module _ (R : Row) (s : List ℕ) (r : Saved) (no : r .formed ≡ false) where
+module _ (R : Row) (s cells edges : List ℕ) (r : Saved) (no : r .formed ≡ false) where
   -- not in form, and said so
-  refused : (Formed R s → ⊥) → Loaded R s r
+  refused : (Formed R s → ⊥) → Loaded R s cells edges r
   refused never =
       let out : inForm R s ≡ false = fails (inForm R s) (λ h. never (formed R s h)) in
       record { form = no ∙ sym out; tells = λ h. absurd (clash (inForm R s) h out) }
 
-  pub refused-head : (count : ℕ) → count ≡ length (R .widths) → headFits count s ≡ false → Loaded R s r
+  pub refused-head : (count : ℕ) → count ≡ length (R .widths) → headFits count s ≡ false → Loaded R s cells edges r
   refused-head count e h = refused (λ f. clash (headFits count s) (rw e (head-fits s f)) h)
 
-  pub refused-zeros : allZero (drop (headSize + partSize * savedClumps s) s) ≡ false → Loaded R s r
+  pub refused-zeros : allZero (drop (headSize + partSize * savedClumps s) s) ≡ false → Loaded R s cells edges r
   refused-zeros h = refused (λ f. clash _ (f .zeros) h)
 
 module _
-    (R : Row) (s : List ℕ) (width count : ℕ) (ends : List ℕ)
+    (R : Row) (s : List ℕ) (width count : ℕ) (ends cells edges : List ℕ)
     (t : Told R width count ends)
     (h : Head count s)
     (zeros : allZero (drop (headSize + partSize * savedClumps s) s) ≡ true)
@@ -62,9 +62,9 @@ module _
         let f = formed R s yes-form in
         both clumps-fit cells-add (parts-fit R s width count ends t f) (eq-eqb _ _ (f .add-up)))
 
-    pub loaded : (head r : Saved) → head ≡ headOf s → Parted head s width ends r → Loaded R s r
+    pub loaded : (head r : Saved) → head ≡ headOf s → Parted head s width ends cells edges r → Loaded R s cells edges r
     loaded head r e p =
-        let q : Parted (headOf s) s width ends r = subst (λ (x : Saved). Parted x s width ends r) e p in
+        let q : Parted (headOf s) s width ends cells edges r = subst (λ (x : Saved). Parted x s width ends cells edges r) e p in
         let same : r .formed ≡ inForm R s = q .form ∙ rw (hand-is (savedHand s) (h .hand-bit)) tests-are in
         record {
           form = same;
@@ -74,7 +74,7 @@ module _
                 held = q .held;
                 clumps = q .clumps;
                 carried = rw (q .carried);
-                cells = q .cells (same ∙ yes-form);
-                edges = q .edges (same ∙ yes-form);
+                cells-are = q .cells-are (same ∙ yes-form);
+                edges-are = q .edges-are (same ∙ yes-form);
               };
         }

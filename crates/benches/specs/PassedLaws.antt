@@ -5,12 +5,11 @@ use mathlib.Core.List.{List}
 use mathlib.Core.Bool.{Bool, true, false, cond, _&&_}
 use native.Mathlib.Omega.{arith}
 use native.Mathlib.Numerals.{add-one}
-use lib.ListN.{length, getD, set, length-set}
+use lib.ListN.{length, getD, set}
 use lib.Seq.{getD-set-same, getD-set-other}
 use lib.Dec.{ltb, leb, eqb}
 use borrow.Author.Count.{below-more}
-use borrow.Author.Tests.{leb-true}
-use Rattle.rules.specs.Sizes.{mostCells}
+use borrow.Author.Tests.{ltb-true, leb-true}
 use Rattle.rules.specs.Bench.{savedCells, savedEdge, cellsBefore}
 use Rattle.benches.specs.declared.Saved.{Saved}
 use Rattle.benches.specs.Fits.{firstBefore, edgeBefore, endsBy, cellsFit, edgeFits, partFits, partsFit}
@@ -18,24 +17,19 @@ use Rattle.benches.specs.Saved.{Parted}
 use Rattle.benches.specs.BothLaws.{both-hold, both, fails, clash}
 use Rattle.benches.specs.FitsLaws.{fits-each}
 
--- after k clumps: all fit, they stand in the lists, and `last`, `left` and `first` belong to the clump before the next
-pub record Passed (s : List ℕ) (width : ℕ) (ends : List ℕ) (head : Saved) (settled : ℕ) (saved : Saved) (last left first k : ℕ) : Type 0 where
+-- after k clumps: all fit, they stand in the lists, and `last`, `left` and `first` belong to the clump before the next;
+-- each clump that fits has a cell, so that the lists have a place for the next one that does
+pub record Passed (s : List ℕ) (width : ℕ) (ends : List ℕ) (head : Saved) (settled : ℕ) (cells edges : List ℕ) (last left first k : ℕ) : Type 0 where
   pub count : k ≤ head .clumps
   pub few : first ≤ head .opened
   pub back : last ≤ first
+  pub below : k ≤ first
   pub first-is : first ≡ cellsBefore s k
   pub last-is : last ≡ firstBefore s k
   pub left-is : left ≡ edgeBefore s k
   pub fit : partsFit ends s width (head .opened) settled k ≡ true
-  pub not-yet : saved .formed ≡ false
-  pub same-opened : saved .opened ≡ head .opened
-  pub same-held : saved .held ≡ head .held
-  pub same-clumps : saved .clumps ≡ head .clumps
-  pub same-carried : saved .carried ≡ head .carried
-  pub long-cells : length (saved .cells) ≡ mostCells
-  pub long-edges : length (saved .edges) ≡ mostCells
-  pub cells : (i : ℕ) → i < k → getD (saved .cells) i 0 ≡ savedCells s i
-  pub edges : (i : ℕ) → i < k → getD (saved .edges) i 0 ≡ savedEdge s i
+  pub cells-are : (i : ℕ) → i < k → getD cells i 0 ≡ savedCells s i
+  pub edges-are : (i : ℕ) → i < k → getD edges i 0 ≡ savedEdge s i
 
 -- one element more of a list that is written from the front
 one-more :
@@ -47,41 +41,35 @@ one-more l f k x inside e all =
     (getD-set-same l k x 0 inside ∙ e)
 
 module _ (s : List ℕ) (width : ℕ) (ends : List ℕ) (head : Saved) (settled : ℕ) where
-  pub passed-none : head .formed ≡ false → length (head .cells) ≡ mostCells → length (head .edges) ≡ mostCells → Passed s width ends head settled head 0 0 0 0
+  pub passed-none : (cells edges : List ℕ) → Passed s width ends head settled cells edges 0 0 0 0
   unfolding cellsBefore firstBefore edgeBefore partsFit
-  passed-none h c e =
+  passed-none cells edges =
       record {
         count = omega arith;
         few = omega arith;
         back = omega arith;
+        below = omega arith;
         first-is = refl;
         last-is = refl;
         left-is = refl;
         fit = refl;
-        not-yet = h;
-        same-opened = refl;
-        same-held = refl;
-        same-clumps = refl;
-        same-carried = refl;
-        long-cells = c;
-        long-edges = e;
-        cells = λ i l. absurd (omega arith);
-        edges = λ i l. absurd (omega arith);
+        cells-are = λ i l. absurd (omega arith);
+        edges-are = λ i l. absurd (omega arith);
       }
 
-  module _ {saved : Saved} {last left first k : ℕ} (p : Passed s width ends head settled saved last left first k) where
+  module _ {cells edges : List ℕ} {last left first k : ℕ} (p : Passed s width ends head settled cells edges last left first k) where
     -- the next clump's test, by the numbers at hand
-    module _ (cells edge : ℕ) (c : cells ≡ savedCells s k) (e : edge ≡ savedEdge s k) where
+    module _ (count edge : ℕ) (c : count ≡ savedCells s k) (e : edge ≡ savedEdge s k) where
       abbrev edge-here : Bool
       edge-here =
           edgeFits (ltb k settled) edge
           (endsBy left edge (getD ends last 0) (getD ends first 0))
-          (endsBy edge width (getD ends first 0) (getD ends (first + cells) 0))
+          (endsBy edge width (getD ends first 0) (getD ends (first + count) 0))
 
       abbrev here : Bool
-      here = cellsFit first (first + cells) (head .opened) && edge-here
+      here = cellsFit first (first + count) (head .opened) && edge-here
 
-      next-is : first + cells ≡ cellsBefore s (suc k)
+      next-is : first + count ≡ cellsBefore s (suc k)
       unfolding cellsBefore
       next-is = rw (p .first-is, c)
 
@@ -91,78 +79,63 @@ module _ (s : List ℕ) (width : ℕ) (ends : List ℕ) (head : Saved) (settled 
 
       -- it fits: one clump more
       pub passed-more :
-          k < head .clumps → head .clumps ≤ mostCells → here ≡ true →
-          Passed s width ends head settled
-          (record {
-            formed = saved .formed;
-            opened = saved .opened;
-            held = saved .held;
-            clumps = saved .clumps;
-            carried = saved .carried;
-            cells = set (saved .cells) k cells;
-            edges = set (saved .edges) k edge;
-          })
-          first edge (first + cells) (k + 1)
+          k < head .clumps → head .opened ≤ length cells → head .opened ≤ length edges → here ≡ true →
+          Passed s width ends head settled (set cells k count) (set edges k edge) first edge (first + count) (k + 1)
       unfolding partsFit firstBefore edgeBefore
-      passed-more l most fits =
-          let two = both-hold (cellsFit first (first + cells) (head .opened)) edge-here fits in
-          let next = both-hold (ltb first (first + cells)) (leb (first + cells) (head .opened)) (two .0) in
+      passed-more l room-cells room-edges fits =
+          let two = both-hold (cellsFit first (first + count) (head .opened)) edge-here fits in
+          let next = both-hold (ltb first (first + count)) (leb (first + count) (head .opened)) (two .0) in
+          let some : first < first + count = ltb-true first (first + count) (next .0) in
+          let within : first + count ≤ head .opened = leb-true (first + count) (head .opened) (next .1) in
           record {
             count = omega arith;
-            few = leb-true (first + cells) (head .opened) (next .1);
+            few = within;
             back = omega arith;
+            below = omega arith;
             first-is = rw add-one next-is;
             last-is = rw add-one (p .first-is);
             left-is = rw add-one e;
             fit = rw add-one (both _ _ (p .fit) (sym here-is ∙ fits));
-            not-yet = p .not-yet;
-            same-opened = p .same-opened;
-            same-held = p .same-held;
-            same-clumps = p .same-clumps;
-            same-carried = p .same-carried;
-            long-cells = length-set (saved .cells) k cells ∙ p .long-cells;
-            long-edges = length-set (saved .edges) k edge ∙ p .long-edges;
-            cells = one-more (saved .cells) (savedCells s) k cells (omega (arith, p .long-cells)) c (p .cells);
-            edges = one-more (saved .edges) (savedEdge s) k edge (omega (arith, p .long-edges)) e (p .edges);
+            cells-are = one-more cells (savedCells s) k count (omega arith) c (p .cells-are);
+            edges-are = one-more edges (savedEdge s) k edge (omega arith) e (p .edges-are);
           }
 
       -- it does not fit: not in form
-      pub passed-stop : settled ≡ head .clumps - cond (head .held) 1 0 → k < head .clumps → here ≡ false → Parted head s width ends saved
-      passed-stop all l stops =
+      pub passed-stop :
+          settled ≡ head .clumps - cond (head .held) 1 0 → k < head .clumps → head .formed ≡ false → here ≡ false → Parted head s width ends cells edges head
+      passed-stop all l not-yet stops =
           let none : partsFit ends s width (head .opened) settled (head .clumps) ≡ false =
           fails _ (λ h. clash (partFits ends s width (head .opened) settled k) (fits-each ends s width (head .opened) settled (head .clumps) h k l) (sym here-is ∙ stops)) in
           record {
-            form = p .not-yet ∙ rw (← all, none);
-            opened = p .same-opened;
-            held = p .same-held;
-            clumps = p .same-clumps;
-            carried = p .same-carried;
-            cells = λ h. absurd (clash (saved .formed) h (p .not-yet));
-            edges = λ h. absurd (clash (saved .formed) h (p .not-yet));
+            form = not-yet ∙ rw (← all, none);
+            opened = refl;
+            held = refl;
+            clumps = refl;
+            carried = refl;
+            cells-are = λ h. absurd (clash (head .formed) h not-yet);
+            edges-are = λ h. absurd (clash (head .formed) h not-yet);
           }
 
     -- all fit: in form where their cells add to those opened
     pub passed-all :
         settled ≡ head .clumps - cond (head .held) 1 0 → k ≡ head .clumps →
-        Parted head s width ends
+        Parted head s width ends cells edges
         (record {
           formed = eqb first (head .opened);
-          opened = saved .opened;
-          held = saved .held;
-          clumps = saved .clumps;
-          carried = saved .carried;
-          cells = saved .cells;
-          edges = saved .edges;
+          opened = head .opened;
+          held = head .held;
+          clumps = head .clumps;
+          carried = head .carried;
         })
     passed-all all e =
         let full : partsFit ends s width (head .opened) settled (head .clumps) ≡ true = rw e at (p .fit) in
         let sum : first ≡ cellsBefore s (head .clumps) = rw e at (p .first-is) in
         record {
           form = rw (← all, full, sum);
-          opened = p .same-opened;
-          held = p .same-held;
-          clumps = p .same-clumps;
-          carried = p .same-carried;
-          cells = λ h i l. p .cells i (omega arith);
-          edges = λ h i l. p .edges i (omega arith);
+          opened = refl;
+          held = refl;
+          clumps = refl;
+          carried = refl;
+          cells-are = λ h i l. p .cells-are i (omega arith);
+          edges-are = λ h i l. p .edges-are i (omega arith);
         }

@@ -3,20 +3,15 @@ use mathlib.Core.Path.{_≡_}
 use Prim.Native.Nat.{ℕ, zero, suc, _+_, _-_, _≤_, _<_}
 use mathlib.Core.List.{List, [], _∷_, _++_}
 use mathlib.Core.Bool.{Bool, true, false, cond, _&&_}
-use lib.ListN.{length, getD, take, replicate}
+use lib.ListN.{length, getD, take}
 use lib.Dec.{eqb}
 use Rattle.numbers.specs.Bytes.{u16Bytes, u32Bytes}
-use Rattle.rules.specs.Sizes.{mostCells}
 use Rattle.rules.specs.Row.{Row}
 use Rattle.rules.specs.Reading.{total}
 use Rattle.rules.specs.Steps.{Clump, Bench}
 use Rattle.rules.specs.Bench.{savedOpened, savedHand, savedClumps, savedCarried, savedCells, savedEdge, handByte, clumpsOf, cellsBefore, inForm}
 use Rattle.benches.specs.Fits.{partsFit}
 use Rattle.benches.specs.declared.Saved.{Saved}
-
--- no clump yet
-unfoldable pub blank : List ℕ
-blank = replicate mostCells 0
 
 -- the head's numbers
 abbrev pub headOf : List ℕ → Saved
@@ -27,8 +22,6 @@ headOf s =
       held = eqb (savedHand s) 1;
       clumps = savedClumps s;
       carried = record { 0 = savedCarried s };
-      cells = blank;
-      edges = blank;
     }
 
 -- the row that the numbers of a call are taken from
@@ -38,28 +31,28 @@ pub record Told (R : Row) (width count : ℕ) (ends : List ℕ) : Type 0 where
   pub sums : (i : ℕ) → i ≤ count → getD ends i 0 ≡ total (take i (R .widths))
 
 -- what saved bytes say is told, number by number and clump by clump
-pub record Tells (s : List ℕ) (r : Saved) : Type 0 where
+pub record Tells (s cells edges : List ℕ) (r : Saved) : Type 0 where
   pub opened : r .opened ≡ savedOpened s
   pub held : r .held ≡ eqb (savedHand s) 1
   pub clumps : r .clumps ≡ savedClumps s
   pub carried : r .carried .0 ≡ savedCarried s
-  pub cells : (k : ℕ) → k < savedClumps s → getD (r .cells) k 0 ≡ savedCells s k
-  pub edges : (k : ℕ) → k < savedClumps s → getD (r .edges) k 0 ≡ savedEdge s k
+  pub cells-are : (k : ℕ) → k < savedClumps s → getD cells k 0 ≡ savedCells s k
+  pub edges-are : (k : ℕ) → k < savedClumps s → getD edges k 0 ≡ savedEdge s k
 
 -- told in form exactly where they are, and then all that they say
-pub record Loaded (R : Row) (s : List ℕ) (r : Saved) : Type 0 where
+pub record Loaded (R : Row) (s cells edges : List ℕ) (r : Saved) : Type 0 where
   pub form : r .formed ≡ inForm R s
-  pub tells : inForm R s ≡ true → Tells s r
+  pub tells : inForm R s ≡ true → Tells s cells edges r
 
 -- after the clumps: the head as it was, in form where all clumps fit and their cells add to those opened, and then each clump
-pub record Parted (head : Saved) (s : List ℕ) (width : ℕ) (ends : List ℕ) (r : Saved) : Type 0 where
+pub record Parted (head : Saved) (s : List ℕ) (width : ℕ) (ends cells edges : List ℕ) (r : Saved) : Type 0 where
   pub form : r .formed ≡ (partsFit ends s width (head .opened) (head .clumps - cond (head .held) 1 0) (head .clumps) && eqb (cellsBefore s (head .clumps)) (head .opened))
   pub opened : r .opened ≡ head .opened
   pub held : r .held ≡ head .held
   pub clumps : r .clumps ≡ head .clumps
   pub carried : r .carried ≡ head .carried
-  pub cells : r .formed ≡ true → (k : ℕ) → k < head .clumps → getD (r .cells) k 0 ≡ savedCells s k
-  pub edges : r .formed ≡ true → (k : ℕ) → k < head .clumps → getD (r .edges) k 0 ≡ savedEdge s k
+  pub cells-are : r .formed ≡ true → (k : ℕ) → k < head .clumps → getD cells k 0 ≡ savedCells s k
+  pub edges-are : r .formed ≡ true → (k : ℕ) → k < head .clumps → getD edges k 0 ≡ savedEdge s k
 
 -- the mark and the four numbers of a bench, as bytes
 unfoldable pub headBytes : ℕ → ℕ → ℕ → ℕ → List ℕ

@@ -3,7 +3,7 @@
 ghost use mathlib.Core.Path.{_≡_};
 ghost use mathlib.Core.List.{_++_};
 ghost use mathlib.Core.Bool.{true, false, cond, _&&_};
-ghost use Prim.Native.Nat.{_+_, _-_, _*_, _≤_, _<_};
+ghost use Prim.Native.Nat.{_+_, _-_, _*_, _≤_, _<_, max};
 ghost use lib.ListN.{length, drop, replicate};
 ghost use Rattle.rules.specs.Sizes.{mostCells, partSize, benchSize};
 ghost use Rattle.rules.specs.Row.{Row};
@@ -12,15 +12,13 @@ ghost use Rattle.rules.specs.Bench.{allZero, benchBytes, fresh};
 ghost use Rattle.benches.specs.Fits.{hasMark, countsFit, headFits, endsBy, cellsFit, edgeFits};
 ghost use Rattle.benches.specs.Saved.{headOf, Parted, Told, Loaded, Written, headBytes};
 
-// What saved bytes say: whether they are in form, and if so their numbers, and the cells and left edge of each clump, the one in hand last.
+// What saved bytes say: whether they are in form, and if so their numbers. The cells and left edge of each clump, the one in hand last, go to lent lists.
 pub struct Saved {
     pub formed: bool,
     pub opened: usize,
     pub held: bool,
     pub clumps: usize,
     pub carried: rules::Carried,
-    pub cells: [u16; rules::MOST_CELLS],
-    pub edges: [u32; rules::MOST_CELLS],
 }
 
 // A byte as a number among others.
@@ -41,8 +39,6 @@ fn head_of(bench: &[u8]) -> Saved
         held: bench[4] == 1,
         clumps: numbers::u16_at(bench, 5) as usize,
         carried: rules::Carried(numbers::u32_at(bench, 7)),
-        cells: [0; rules::MOST_CELLS],
-        edges: [0; rules::MOST_CELLS],
     }
 }
 
@@ -86,18 +82,24 @@ fn head_fits(bench: &[u8], count: usize) -> bool
     counts_fit(count, opened, wide(bench[4]), clumps, carried)
 }
 
-// Are all bytes from a place on 0? Their sum tells, without a test at each.
+fn larger(a: u8, b: u8) -> u8
+    ensures { λ r. ⌜ r ≡ max a b ⌝ }
+{
+    if a < b { b } else { a }
+}
+
+// Are all bytes from a place on 0? The largest of them tells, without a test at each.
 fn zero_from(bench: &[u8], from: usize) -> bool
     requires { ⌜ (length (now bench) ≡ benchSize) × (from ≤ length (now bench)) ⌝ }
     ensures { λ r. ⌜ r ≡ allZero (drop from (now (bench .entry))) ⌝ }
 {
-    let mut sum: u32 = 0;
+    let mut most: u8 = 0;
     let mut i = from;
     while i < bench.len() {
-        sum += bench[i] as u32;
+        most = larger(most, bench[i]);
         i += 1;
     }
-    sum == 0
+    most == 0
 }
 
 // Does a clump at `edge` end by `limit`, where the cells left of it are `from` wide and with its own they are `to`? In 64 bits nothing wraps.
@@ -130,10 +132,19 @@ fn settled_of(held: bool, clumps: usize) -> usize
 }
 
 // The clumps, one after the other, as far as they fit: in form where all do and their cells add to those opened.
-fn parts_of(head: Saved, bench: &[u8], width: u32, before: &[u32; rules::MOST_CELLS + 1]) -> Saved
+fn parts_of(
+    head: Saved,
+    bench: &[u8],
+    width: u32,
+    starts: &[u32],
+    cells: &mut [u16],
+    edges: &mut [u32],
+) -> Saved
     requires { ⌜ length (now bench) ≡ benchSize ⌝ }
-    requires { ⌜ (head .clumps ≤ mostCells) × ((head .opened ≤ mostCells) × ((cond (head .held) 1 0 ≤ head .clumps) × (head .formed ≡ false))) ⌝ }
-    ensures { λ r. ⌜ Parted head (now (bench .entry)) width (now (before .entry)) r ⌝ }
+    requires { ⌜ (head .clumps ≤ mostCells) × (cond (head .held) 1 0 ≤ head .clumps) × (head .formed ≡ false) ⌝ }
+    requires { ⌜ (head .opened ≤ mostCells) × (head .opened + 1 ≤ length (now starts)) × (head .opened ≤ length (now cells)) × (head .opened ≤ length (now edges)) ⌝ }
+    ensures { λ r. ⌜ Parted head (now (bench .entry)) width (now (starts .entry)) (now (cells .exit)) (now (edges .exit)) r ⌝ }
+    ensures { λ _. ⌜ (length (now (cells .exit)) ≡ length (now (cells .entry))) × (length (now (edges .exit)) ≡ length (now (edges .entry))) ⌝ }
 {
     let mut saved = head;
     let clumps = saved.clumps;
@@ -145,19 +156,19 @@ fn parts_of(head: Saved, bench: &[u8], width: u32, before: &[u32; rules::MOST_CE
     let mut k: usize = 0;
     while k < clumps {
         let at = rules::HEAD_SIZE + rules::PART_SIZE * k;
-        let cells = numbers::u16_at(bench, at);
+        let count = numbers::u16_at(bench, at);
         let edge = numbers::u32_at(bench, at + 2);
-        let next = first + cells as usize;
+        let next = first + count as usize;
         if !cells_fit(first, next, opened) {
             return saved;
         }
-        let after = ends_by(left, edge, before[last], before[first]);
-        let within = ends_by(edge, width, before[first], before[next]);
+        let after = ends_by(left, edge, starts[last], starts[first]);
+        let within = ends_by(edge, width, starts[first], starts[next]);
         if !edge_fits(k < settled, edge, after, within) {
             return saved;
         }
-        saved.cells[k] = cells;
-        saved.edges[k] = edge;
+        cells[k] = count;
+        edges[k] = edge;
         last = first;
         left = edge;
         first = next;
@@ -167,10 +178,19 @@ fn parts_of(head: Saved, bench: &[u8], width: u32, before: &[u32; rules::MOST_CE
     saved
 }
 
-// The bench that saved bytes say, for a row of `count` cells in a width; before[i] is the width of its first i cells together.
-pub fn load(bench: &[u8], width: u32, count: usize, before: &[u32; rules::MOST_CELLS + 1]) -> Saved
+// The bench that saved bytes say, for a row of `count` cells in a width; starts[i] is the width of its first i cells together.
+pub fn load(
+    bench: &[u8],
+    width: u32,
+    count: usize,
+    starts: &[u32],
+    cells: &mut [u16],
+    edges: &mut [u32],
+) -> Saved
     requires { ⌜ (length (now bench) ≡ benchSize) × (count ≤ mostCells) ⌝ }
-    ensures { λ r. ⌜ ((R : Row) → Told R width count (now (before .entry)) → Loaded R (now (bench .entry)) r) ⌝ }
+    requires { ⌜ (count + 1 ≤ length (now starts)) × (count ≤ length (now cells)) × (count ≤ length (now edges)) ⌝ }
+    ensures { λ r. ⌜ ((R : Row) → Told R width count (now (starts .entry)) → Loaded R (now (bench .entry)) (now (cells .exit)) (now (edges .exit)) r) ⌝ }
+    ensures { λ _. ⌜ (length (now (cells .exit)) ≡ length (now (cells .entry))) × (length (now (edges .exit)) ≡ length (now (edges .entry))) ⌝ }
 {
     let head = head_of(bench);
     if !head_fits(bench, count) {
@@ -180,7 +200,7 @@ pub fn load(bench: &[u8], width: u32, count: usize, before: &[u32; rules::MOST_C
     if !zero_from(bench, rules::HEAD_SIZE + rules::PART_SIZE * clumps) {
         return head;
     }
-    parts_of(head, bench, width, before)
+    parts_of(head, bench, width, starts, cells, edges)
 }
 
 // The mark and the numbers of a bench, and every byte after them 0.
@@ -204,10 +224,11 @@ pub fn store(
     held: bool,
     clumps: usize,
     carried: rules::Carried,
-    cells: &[u16; rules::MOST_CELLS],
-    edges: &[u32; rules::MOST_CELLS],
+    cells: &[u16],
+    edges: &[u32],
 )
     requires { ⌜ (length (now bench) ≡ benchSize) × ((opened ≤ mostCells) × (clumps ≤ mostCells)) ⌝ }
+    requires { ⌜ (clumps ≤ length (now cells)) × (clumps ≤ length (now edges)) ⌝ }
     ensures { λ _. ⌜ ((b : Bench) → Written opened held clumps (carried .0) (now (cells .entry)) (now (edges .entry)) b → now (bench .exit) ≡ benchBytes b) ⌝ }
 {
     store_head(bench, opened, held, clumps, carried);

@@ -1,8 +1,8 @@
--- Laws that the proofs of this crate's functions cite: elements moved, places searched, changes put in their places, sums of sizes, walks, and parts
--- in order.
-pub mod MoveLaws
-pub mod SearchLaws
+-- Laws that the proofs of this crate's functions cite: the size of a slope, changes put into a heap, keys popped from it, a heap for another cap or in
+-- another place, a walk down, and two heaps made one.
+pub mod SizeLaws
 pub mod PutLaws
-pub mod SumLaws
+pub mod ThinLaws
+pub mod CapLaws
 pub mod WalkLaws
-pub mod OrderLaws
+pub mod JoinLaws

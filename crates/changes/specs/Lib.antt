@@ -1,10 +1,4 @@
--- Definitions that the contracts of this crate cite: parts of the two lists of changes, the ends of a best interval, parts in order, and parts that
--- meet. Beside them the laws that callers reason with.
-pub mod Parts
-pub mod PartLaws
-pub mod Ends
-pub mod EndsLaws
-pub mod Ordered
-pub mod Meets
-pub mod KeptLaws
-pub mod OrderedLaws
+-- Fills: what a heap holds of the changes of a stretch. Steps: what each function makes of it. FillLaws: what callers reason with.
+pub mod Fills
+pub mod Steps
+pub mod FillLaws

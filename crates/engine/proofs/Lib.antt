@@ -1,10 +1,11 @@
--- Laws that the proofs of this crate's functions cite: of sites and places, of clumps made of cells and their best intervals, of the clump in hand
--- and the last settled one, of the three steps, of runs, and of making a loaded bench's lists again.
-pub mod SiteLaws
-pub mod PlaceLaws
 pub mod ClumpLaws
-pub mod BestLaws
+pub mod SizeLaws
 pub mod HandLaws
+pub mod ChoiceLaws
+pub mod HeapLaws
 pub mod StepLaws
-pub mod RunLaws
+pub mod FoundLaws
+pub mod AskLaws
+pub mod MoveLaws
 pub mod RemakeLaws
+pub mod RunLaws

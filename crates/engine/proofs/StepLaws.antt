@@ -1,55 +1,42 @@
--- Each of the three steps, done on the lists, is the step of the definitions; and putting the clump in hand in order again changes nothing.
-use Prim.Native.Nat.{ℕ, _+_, _-_, _≤_, _<_, max}
-use mathlib.Core.Path.{_≡_, refl, subst, _∙_}
+-- Each of the three steps, done on the lists, is the step of the definitions; and making the heap in hand again, or walking down it, changes nothing.
+use Prim.Native.Nat.{ℕ, _+_, _-_, _*_, _≤_, _<_, min, max}
+use mathlib.Core.Path.{_≡_, refl, ap, sym, subst, _∙_}
 use mathlib.Core.Bool.{true, false}
+use mathlib.Core.Logic.{_⊎_, ⊎-elim, inl, inr}
 use mathlib.Core.List.{List, [], _∷_}
 use native.Mathlib.Omega.{arith}
 use lib.ListN.{length, getD, set, length-set}
 use lib.Seq.{getD-set-same, getD-set-other}
 use borrow.Author.Tests.{lt-ltb, le-ltb, leb-false}
-use lib.IntN.{ℤ, pos, _-ℤ_}
-use lib.Signed.{_≤ℤ_}
-use Rattle.numbers.specs.SignedLaws.{≤ℤ-trans}
-use Rattle.rules.specs.Sizes.{mostCells}
 use Rattle.rules.specs.Row.{Row}
 use Rattle.rules.specs.Steps.{Clump, Hand, empty, holding, Bench as Meant, single, joined, standing, endOf, leftOf, rightOf, opens, joins, settles, finishedBy, finished, stepBy, step}
 use Rattle.rules.specs.Bench.{apart}
-use Rattle.slopes.specs.Best.{best-left-right}
 use Rattle.slopes.specs.Frame.{packed}
+use Rattle.slopes.specs.Turn.{by-order}
+use Rattle.slopes.specs.Sizes.{need}
 use Rattle.slopes.specs.Forgotten.{cellsIn, Proper, step-proper}
 use Rattle.slopes.specs.Apart.{step-apart, proper-clumps}
-use Rattle.changes.specs.declared.Part.{Part}
-use Rattle.engine.specs.Laid.{heldBefore, held-most, Laid}
-use Rattle.engine.specs.Stands.{Lists, withPart, Sorted, Listed, Numbers, Stands}
-use Rattle.engine.specs.SortedLaws.{sorted-opened, sorted-again, sorted-joined, sorted-settled}
-use Rattle.engine.specs.Taken.{firstOfLast, withHand, withOpened, withJoined, withSettled, PartMade}
-use Rattle.engine.specs.Best.{Capped}
+use Rattle.changes.specs.Fills.{Filled, Outside}
+use Rattle.changes.specs.Steps.{JoinedAs}
+use Rattle.changes.specs.declared.Kept.{Kept}
+use Rattle.changes.specs.declared.Joined.{Joined}
+use Rattle.engine.specs.Laid.{heldBefore, held-rises, held-most, Layout, Laid}
+use Rattle.engine.specs.Stands.{Lists, standOf, limitOf, Listed, Roomy, Stands}
+use Rattle.engine.specs.Taken.{lastOf, firstOfLast, withHand, withOpened, withJoined, withSettled, MadeAs, FoundAs, meetingOf, settledLists}
 use Rattle.engine.specs.declared.Bench.{Bench}
-use Rattle.engine.proofs.SiteLaws.{counted-left}
-use Rattle.engine.proofs.PlaceLaws.{place-there, held-there}
-use Rattle.engine.proofs.ClumpLaws.{clump-held}
-use Rattle.engine.proofs.HandLaws.{inside, part, held-first, held-last, place-first, first-last, last-place, held-of-last, placed-last}
+use Rattle.engine.specs.declared.Found.{Found}
+use Rattle.engine.proofs.ClumpLaws.{clump-held, clump-width}
+use Rattle.engine.proofs.HandLaws.{stands-rise, edge-packed, first-cell, all-cells, last-cell, is-made, all-made, inside, start-first, bound-first, bound-last, packed-within}
+use Rattle.engine.proofs.ChoiceLaws.{joins-by, settles-at, not-joined}
+use Rattle.engine.proofs.HeapLaws.{withKeys, roomy-keys, heaps-kept, heaps-before, made-heap}
 
--- the part in hand is no matter of the numbers
-pub numbers-hand : (R : Row) (e : Bench) (p : Part) (cells edges : List ℕ) (b : Meant) → Numbers R e cells edges b → Numbers R
-    (withHand e p) cells edges b
-numbers-hand R e p cells edges b s =
-    record {
-      proper = s .proper;
-      within = s .within;
-      apart-all = s .apart-all;
-      few-carried = s .few-carried;
-      opened-is = s .opened-is;
-      held-is = s .held-is;
-      first-is = s .first-is;
-      settled-is = s .settled-is;
-      carried-is = s .carried-is;
-      listed = s .listed;
-      cells-long = s .cells-long;
-      edges-long = s .edges-long;
-    }
+-- what the walk down the heap in hand found
+abbrev pub FoundFor : Row → Layout → Clump → List Clump → List ℕ → Found → Type 0
+FoundFor R y c settled keys r =
+    FoundAs keys (y .at) (y .slope) (heldBefore R (cellsIn settled)) (heldBefore R (cellsIn settled + c .cells)) (need (c .changes))
+    (packed R (cellsIn settled)) (standOf R settled) (limitOf R (cellsIn settled + c .cells)) r
 
--- a cell after the last is not listed
+-- a clump after the last is not listed
 listed-set : (cells edges : List ℕ) (k v w : ℕ) (cs : List Clump) → length cs ≤ k → Listed cells edges cs → Listed (set cells k v) (set edges k w) cs
 listed-set cells edges k v w [] h l = tt
 listed-set cells edges k v w (c ∷ cs) h l = (
@@ -58,221 +45,229 @@ listed-set cells edges k v w (c ∷ cs) h l = (
   listed-set cells edges k v w cs (omega arith) (l .2),
 )
 
-module _ (R : Row) (places held : List ℕ) (needs : List ℤ) (laid : Laid R places held needs) (e : Bench) (cells edges : List ℕ)
-    (ls : Lists) (xs ws : List ℤ) where
+module _ (R : Row) (y : Layout) (laid : Laid R y) (e : Bench) (ls : Lists) (opened carried : ℕ) where
   abbrev n : ℕ
   n = length (R .widths)
 
-  -- ---- a bench by its parts
+  abbrev bench : Hand → List Clump → Meant
+  bench hand settled = record { opened = opened; hand = hand; settled = settled; carried = carried }
 
-  module _ (opened carried : ℕ) where
-    abbrev bench : Hand → List Clump → Meant
-    bench hand settled = record { opened = opened; hand = hand; settled = settled; carried = carried }
+  -- ---- open
 
-    opened-parts : (p : Part) (xs′ ws′ : List ℤ) (settled : List Clump) → Stands R e cells edges ls xs ws (bench empty settled) → opened < n
-        → PartMade (getD held (e .opened) 0) (getD held (e .opened + 1) 0) (pos 0 -ℤ pos (getD places (e .opened) 0)) xs ws xs′ ws′ p
-        → finished R (bench empty settled) ≡ false → Stands R (withOpened e p) cells edges ls xs′ ws′ (step R (bench empty settled))
-    unfolding step stepBy opens single
-    opened-parts p xs′ ws′ settled s h r f =
-        let whole = s .numbers .proper in
+  pub opened-stands : (settled : List Clump) (keys′ : List ℕ) (k : Kept) → Stands R y e ls (bench empty settled) → opened < n
+      → (width : ℕ) → width ≡ R .width → MadeAs (e .first) (e .opened + 1) width (y .starts) (y .bounds) (y .at) (y .slope) (ls .keys) keys′ k
+      → Stands R y (withOpened e k) (withKeys ls keys′) (step R (bench empty settled))
+  unfolding step stepBy opens single
+  opened-stands settled keys′ k s h width w m =
+      let old = s .numbers in
+      let all : cellsIn settled ≡ opened = old .proper .all-cells in
+      let there = made-heap R y laid (cellsIn settled) (cellsIn settled + 1) (e .first) (e .opened + 1) (old .first-is) (omega (arith, old .opened-is))
+      (omega arith) (omega arith) (ls .keys) keys′ k width w m in
+      record {
+        numbers =
+            record {
+              proper = step-proper R (bench empty settled) (old .proper);
+              within = omega arith;
+              apart-all = old .apart-all;
+              few-carried = omega (arith, old .few-carried);
+              opened-is = omega (arith, old .opened-is);
+              first-is = old .first-is;
+              settled-is = old .settled-is;
+              carried-is = old .carried-is;
+              listed = old .listed;
+            };
+        roomy = roomy-keys R ls keys′ (there .2 .long) (s .roomy);
+        heaps = heaps-before R y ls keys′ settled (heldBefore R (cellsIn settled)) (heldBefore R (cellsIn settled + 1)) (omega arith) (there .2) (s .heaps);
+        hand = record { heap = there .0; near = omega (arith, there .1); far = inr (there .1) };
+      }
+
+  -- ---- the clump in hand, with another heap
+
+  module _ (c : Clump) (settled : List Clump) (s : Stands R y e ls (bench (holding c) settled)) where
+    abbrev a : ℕ
+    a = cellsIn settled
+
+    hand-stands : (keys′ : List ℕ) (k : Kept) (end : ℕ) → Outside (ls .keys) keys′ (heldBefore R (cellsIn settled)) end
+        → Filled keys′ (y .at) (y .slope) (heldBefore R a) (heldBefore R a) (heldBefore R (a + c .cells)) k → k .cap ≤ limitOf R (a + c .cells)
+        → (standOf R settled ≤ k .cap) ⊎ (k .cap ≡ limitOf R (a + c .cells)) → Stands R y (withHand e k) (withKeys ls keys′) (bench (holding c) settled)
+    hand-stands keys′ k end o f near far =
         let old = s .numbers in
-        let a : e .opened ≡ cellsIn settled = omega (arith, old .opened-is, whole .all-cells) in
-        let from : getD held (e .opened) 0 ≡ heldBefore R (cellsIn settled) = held-there R places held needs laid (e .opened) (cellsIn settled) a
-        (omega arith) in
-        let to : getD held (e .opened + 1) 0 ≡ heldBefore R (cellsIn settled + 1) =
-        held-there R places held needs laid (e .opened + 1) (cellsIn settled + 1) (omega arith) (omega (arith, whole .all-cells)) in
-        let place : getD places (e .opened) 0 ≡ packed R (cellsIn settled) = place-there R places held needs laid (e .opened) (cellsIn settled) a
-        (omega arith) in
         record {
           numbers =
               record {
-                proper = step-proper R (bench empty settled) whole;
-                within = omega arith;
+                proper = old .proper;
+                within = old .within;
                 apart-all = old .apart-all;
-                few-carried = omega (arith, old .few-carried);
-                opened-is = omega (arith, old .opened-is);
-                held-is = refl;
-                first-is = λ q. a;
+                few-carried = old .few-carried;
+                opened-is = old .opened-is;
+                first-is = old .first-is;
                 settled-is = old .settled-is;
                 carried-is = old .carried-is;
                 listed = old .listed;
-                cells-long = old .cells-long;
-                edges-long = old .edges-long;
               };
-          sorted = sorted-opened R p (e .hand) ls xs ws xs′ ws′ settled (single R opened) (omega (arith, whole .all-cells))
-              (rw (from, to, place) at r) (s .sorted);
+          roomy = roomy-keys R ls keys′ (o .long) (s .roomy);
+          heaps = heaps-before R y ls keys′ settled (heldBefore R a) end (omega arith) o (s .heaps);
+          hand = record { heap = f; near = near; far = far };
         }
 
-    -- the two clumps meet where the one in hand begins
-    joined-parts : (p : Part) (xs′ ws′ : List ℤ) (b c : Clump) (settled : List Clump) → Stands R e cells edges ls xs ws
-        (bench (holding c) (b ∷ settled))
-        → PartMade (getD held (firstOfLast e cells) 0) (e .hand .end) (pos 0 -ℤ pos (getD places (firstOfLast e cells) 0)) xs ws xs′ ws′ p
-        → step R (bench (holding c) (b ∷ settled)) ≡ joins (bench (holding c) (b ∷ settled)) (b ∷ settled) c
-        → Stands R (withJoined e cells held p) cells edges ls xs′ ws′ (step R (bench (holding c) (b ∷ settled)))
-    unfolding joins joined cellsIn
-    joined-parts p xs′ ws′ b c settled s r q =
-        let whole = s .numbers .proper in
-        let old = s .numbers in
-        let before = bench (holding c) (b ∷ settled) in
-        let first = first-last R places held needs laid e cells edges ls xs ws opened carried c b settled s in
-        let h0 = held-of-last R places held needs laid e cells edges ls xs ws opened carried c b settled s in
-        let h1 : getD held (e .first) 0 ≡ heldBefore R (cellsIn settled + b .cells) =
-        held-first R places held needs laid e cells edges ls xs ws opened carried c (b ∷ settled) s in
-        let hand = part R places held needs laid e cells edges ls xs ws opened carried c (b ∷ settled) s in
-        let start = placed-last R places held needs laid e cells edges ls xs ws opened carried c b settled s in
-        let h2 : e .hand .end ≡ heldBefore R (cellsIn settled + b .cells + c .cells) = hand .end-is in
-        let hf = hand .first-is in
-        let hb = clump-held R (cellsIn settled) b (whole .all-made .1 .0) in
-        let hc = clump-held R (cellsIn settled + b .cells) c (whole .all-made .0) in
-        let most = held-most R (cellsIn settled + b .cells) (laid .few-nets) in
-        let all : cellsIn settled + b .cells + c .cells ≡ opened = whole .all-cells in
-        let g : cellsIn settled + b .cells + c .cells ≡ cellsIn settled + (b .cells + c .cells) = omega arith in
-        rw q
-        (record {
-          numbers =
-              record {
-                proper = subst (Proper R) q (step-proper R before whole);
-                within = old .within;
-                apart-all = subst (λ (d : Meant). apart (R .width) (d .settled) ≡ true) q (step-apart R (laid .room) before whole (old .apart-all));
-                few-carried = omega (arith, old .few-carried);
-                opened-is = old .opened-is;
-                held-is = refl;
-                first-is = λ t. first;
-                settled-is = last-place R places held needs laid e cells edges ls xs ws opened carried c b settled s;
-                carried-is = omega (arith, old .carried-is);
-                listed = old .listed .2;
-                cells-long = old .cells-long;
-                edges-long = old .edges-long;
-              };
-          sorted = sorted-joined R p (e .hand) ls xs ws xs′ ws′ settled b c (omega arith) (rw (h0, h2, g, start) at r) (s .sorted);
-        })
+    pub again-stands : (keys′ : List ℕ) (k : Kept) (width : ℕ) → width ≡ R .width
+        → MadeAs (e .first) (e .opened) width (y .starts) (y .bounds) (y .at) (y .slope) (ls .keys) keys′ k
+        → Stands R y (withHand e k) (withKeys ls keys′) (bench (holding c) settled)
+    again-stands keys′ k width w m =
+        let there = made-heap R y laid a (a + c .cells) (e .first) (e .opened) (s .numbers .first-is)
+        (last-cell R y laid e ls opened carried c settled s) (omega arith) (inside R y laid e ls opened carried c settled s) (ls .keys) keys′ k width w m in
+        hand-stands keys′ k (heldBefore R (a + c .cells)) (there .2) (there .0) (omega (arith, there .1)) (inr (there .1))
 
-    -- the clump's numbers are listed after those of the settled ones
-    settled-parts : (edge right : ℕ) (c : Clump) (settled : List Clump) → Stands R e cells edges ls xs ws (bench (holding c) settled)
-        → edge ≡ max (endOf settled) (leftOf R c) → right ≡ rightOf R c → endOf settled ≤ right → Capped e places right
-        → step R (bench (holding c) settled) ≡ settles R (bench (holding c) settled) c
-        → Stands R (withSettled e) (set cells (e .settled) (e .opened - e .first)) (set edges (e .settled) edge)
-        (withPart ls (e .settled) (e .hand)) xs ws (step R (bench (holding c) settled))
-    unfolding settles cellsIn leftOf rightOf
-    settled-parts edge right c settled s g r most capped q =
-        let p = s .numbers .proper in
+    pub found-stands : (keys′ : List ℕ) (r : Found) (end : ℕ) → Outside (ls .keys) keys′ (heldBefore R (cellsIn settled)) end → FoundFor R y c settled keys′ r
+        → Stands R y (withHand e (r .hand)) (withKeys ls keys′) (bench (holding c) settled)
+    found-stands keys′ r end o f = hand-stands keys′ (r .hand) end o (f .filled) (f .near) (f .far)
+
+    -- ---- settle
+
+    pub settled-stands : (r : Found) → r .hand ≡ e .hand → FoundFor R y c settled (ls .keys) r → r .joins ≡ false
+        → Stands R y (withSettled e) (settledLists e (y .starts) ls) (step R (bench (holding c) settled))
+    unfolding step stepBy settles cellsIn
+    settled-stands r q f j =
         let old = s .numbers in
         let before = bench (holding c) settled in
-        let all : cellsIn settled + c .cells ≡ opened = p .all-cells in
-        let first : e .first ≡ cellsIn settled = old .first-is (old .held-is) in
-        let count : e .opened - e .first ≡ c .cells = omega (arith, old .opened-is) in
-        let few : length settled < mostCells = omega (arith, proper-clumps R before p, old .within, laid .few-cells) in
+        let made = is-made R y laid e ls opened carried c settled s in
+        let all = all-made R y laid e ls opened carried c settled s in
+        let in-row = inside R y laid e ls opened carried c settled s in
+        let fits = packed-within R y laid e ls opened carried c settled s in
+        let stays : endOf settled ≤ rightOf R c = not-joined R y laid c settled made all in-row (old .apart-all) fits (ls .keys) r f j in
+        let next : step R before ≡ settles R before c = rw (le-ltb (rightOf R c) (endOf settled) stays) refl in
+        let x = max (endOf settled) (leftOf R c) in
+        let cap : r .hand .cap ≡ e .hand .cap = ap (λ (k : Kept). k .cap) q in
+        let start = start-first R y laid e ls opened carried c settled s in
+        let at : e .hand .cap + packed R a ≡ x = omega (arith, settles-at R y laid c settled made all in-row (old .apart-all) fits (ls .keys) r f j) in
+        let edge : e .hand .cap + getD (y .starts) (e .first) 0 ≡ x = omega arith in
+        let count : e .opened - e .first ≡ c .cells = omega (arith, old .first-is, last-cell R y laid e ls opened carried c settled s) in
+        let few : length settled < n = omega (arith, proper-clumps R before (old .proper), old .within) in
         let k : e .settled ≡ length settled = old .settled-is in
-        let near : edge ≤ right = omega (arith, best-left-right (R .width - c .width) (c .changes)) in
-        let place = place-first R places held needs laid e cells edges ls xs ws opened carried c settled s in
-        let in-order : (pos edge -ℤ pos (packed R (cellsIn settled))) ≤ℤ e .hand .cap =
-        ≤ℤ-trans (counted-left edge right (packed R (cellsIn settled)) near) (rw place at capped) in
-        rw (q, k, count)
+        let back : standOf R (standing x c ∷ settled) ≡ e .hand .cap = omega arith in
+        rw (le-ltb (rightOf R c) (endOf settled) stays, k, count, edge)
         (record {
           numbers =
               record {
-                proper = subst (Proper R) q (step-proper R before p);
+                proper = subst (Proper R) next (step-proper R before (old .proper));
                 within = old .within;
-                apart-all = subst (λ (d : Meant). apart (R .width) (d .settled) ≡ true) q (step-apart R (laid .room) before p (old .apart-all));
+                apart-all = subst (λ (d : Meant). apart (R .width) (d .settled) ≡ true) next (step-apart R (laid .room) before (old .proper) (old .apart-all));
                 few-carried = old .few-carried;
                 opened-is = old .opened-is;
-                held-is = refl;
-                first-is = λ t. cc;
+                first-is = last-cell R y laid e ls opened carried c settled s;
                 settled-is = omega arith;
                 carried-is = old .carried-is;
                 listed = (
-                  getD-set-same cells (length settled) (c .cells) 0 (omega (arith, old .cells-long)),
-                  getD-set-same edges (length settled) edge 0 (omega (arith, old .edges-long)) ∙ g,
-                  listed-set cells edges (length settled) (c .cells) edge settled (omega arith) (old .listed),
+                  getD-set-same (ls .cells) (length settled) (c .cells) 0 (omega (arith, s .roomy .cells-long)),
+                  getD-set-same (ls .edges) (length settled) x 0 (omega (arith, s .roomy .edges-long)),
+                  listed-set (ls .cells) (ls .edges) (length settled) (c .cells) x settled (omega arith) (old .listed),
                 );
-                cells-long = length-set cells (length settled) (c .cells) ∙ old .cells-long;
-                edges-long = length-set edges (length settled) edge ∙ old .edges-long;
               };
-          sorted =
-              subst (λ (x : ℕ). Sorted R (e .hand) (withPart ls (length settled) (e .hand)) xs ws empty (standing x c ∷ settled)) g
-              (sorted-settled R (e .hand) (e .hand) ls xs ws settled edge c few in-order (s .sorted));
+          roomy =
+              record {
+                cells-long = omega (arith, s .roomy .cells-long, length-set (ls .cells) (length settled) (c .cells));
+                edges-long = omega (arith, s .roomy .edges-long, length-set (ls .edges) (length settled) x);
+                sizes-long = omega (arith, s .roomy .sizes-long, length-set (ls .sizes) (length settled) (e .hand .size));
+                sums-long = omega (arith, s .roomy .sums-long, length-set (ls .sums) (length settled) (e .hand .sum));
+                keys-long = s .roomy .keys-long;
+              };
+          heaps = (
+            rw (
+              getD-set-same (ls .sizes) (length settled) (e .hand .size) 0 (omega (arith, s .roomy .sizes-long)),
+              getD-set-same (ls .sums) (length settled) (e .hand .sum) 0 (omega (arith, s .roomy .sums-long)),
+              back,
+            )
+                (s .hand .heap),
+            heaps-kept R y ls _ settled
+                (λ i l. getD-set-other (ls .sizes) (length settled) i (e .hand .size) 0 (λ z. omega arith))
+                (λ i l. getD-set-other (ls .sums) (length settled) i (e .hand .sum) 0 (λ z. omega arith)) (λ i l. refl) (s .heaps),
+          );
+          hand = tt;
         })
 
-    -- the clump in hand put in order again
-    again-parts : (p : Part) (xs′ ws′ : List ℤ) (hand : Hand) (settled : List Clump) → Stands R e cells edges ls xs ws (bench hand settled)
-        → e .held ≡ true
-        → PartMade (getD held (e .first) 0) (getD held (e .opened) 0) (pos 0 -ℤ pos (getD places (e .first) 0)) xs ws xs′ ws′ p → Stands R
-        (withHand e p) cells edges ls xs′ ws′ (bench hand settled)
-    again-parts p xs′ ws′ empty settled s h r =
-        let z : _≡_ {A = ℕ} 0 1 = cc (s .numbers .held-is) in
-        absurd (omega arith)
-    again-parts p xs′ ws′ (holding c) settled s h r =
-        let from = held-first R places held needs laid e cells edges ls xs ws opened carried c settled s in
-        let to = held-last R places held needs laid e cells edges ls xs ws opened carried c settled s in
-        let place = place-first R places held needs laid e cells edges ls xs ws opened carried c settled s in
-        record {
-          numbers = numbers-hand R e p cells edges (bench (holding c) settled) (s .numbers);
-          sorted =
-              sorted-again R p (e .hand) ls xs ws xs′ ws′ settled c
-              (inside R places held needs laid e cells edges ls xs ws opened carried c settled s)
-              (rw (from, to, place) at r) (s .sorted);
-        }
+  -- ---- join
 
-    -- ---- which step it is, by what is in hand and by r
+  module _ (b c : Clump) (settled : List Clump) (s : Stands R y e ls (bench (holding c) (b ∷ settled))) where
+    pub last-place : lastOf e ≡ length settled
+    last-place = omega (arith, s .numbers .settled-is)
 
-    open-by : (p : Part) (xs′ ws′ : List ℤ) (hand : Hand) (settled : List Clump) → Stands R e cells edges ls xs ws (bench hand settled)
-        → e .held ≡ false
-        → finished R (bench hand settled) ≡ false → PartMade (getD held (e .opened) 0) (getD held (e .opened + 1) 0)
-        (pos 0 -ℤ pos (getD places (e .opened) 0)) xs ws xs′ ws′ p
-        → Stands R (withOpened e p) cells edges ls xs′ ws′ (step R (bench hand settled))
-    unfolding finished finishedBy
-    open-by p xs′ ws′ empty settled s h f r = opened-parts p xs′ ws′ settled s (leb-false n opened f) r f
-    open-by p xs′ ws′ (holding c) settled s h f r =
-        let z : _≡_ {A = ℕ} 0 1 = cc (s .numbers .held-is) in
-        absurd (omega arith)
+    cells-last : getD (ls .cells) (lastOf e) 0 ≡ b .cells
+    cells-last = ap (λ (k : ℕ). getD (ls .cells) k 0) last-place ∙ s .numbers .listed .0
 
-    join-by : (p : Part) (xs′ ws′ : List ℤ) (hand : Hand) (settled : List Clump) → Stands R e cells edges ls xs ws (bench hand settled)
-        → e .held ≡ true
-        → ((c : Clump) → hand ≡ holding c → rightOf R c < endOf settled)
-        → PartMade (getD held (firstOfLast e cells) 0) (e .hand .end) (pos 0 -ℤ pos (getD places (firstOfLast e cells) 0)) xs ws xs′ ws′ p
-        → Stands R (withJoined e cells held p) cells edges ls xs′ ws′ (step R (bench hand settled))
-    unfolding step stepBy
-    join-by p xs′ ws′ empty settled s h right r =
-        let z : _≡_ {A = ℕ} 0 1 = cc (s .numbers .held-is) in
-        absurd (omega arith)
-    join-by p xs′ ws′ (holding c) [] s h right r = absurd (omega (arith, right c refl))
-    join-by p xs′ ws′ (holding c) (b ∷ settled) s h right r =
-        joined-parts p xs′ ws′ b c settled s r (rw (lt-ltb (rightOf R c) (endOf (b ∷ settled)) (right c refl)) refl)
+    pub edge-last : getD (ls .edges) (lastOf e) 0 ≡ b .edge
+    edge-last = ap (λ (k : ℕ). getD (ls .edges) k 0) last-place ∙ s .numbers .listed .1
 
-    settle-by : (edge right : ℕ) (hand : Hand) (settled : List Clump) → Stands R e cells edges ls xs ws (bench hand settled) → e .held ≡ true
-        → ((c : Clump) → hand ≡ holding c → (right ≡ rightOf R c) × (endOf settled ≤ right) × (edge ≡ max (endOf settled) (leftOf R c)))
-        → Capped e places right
-        → Stands R (withSettled e) (set cells (e .settled) (e .opened - e .first)) (set edges (e .settled) edge)
-        (withPart ls (e .settled) (e .hand)) xs ws (step R (bench hand settled))
-    unfolding step stepBy
-    settle-by edge right empty settled s h best capped =
-        let z : _≡_ {A = ℕ} 0 1 = cc (s .numbers .held-is) in
-        absurd (omega arith)
-    settle-by edge right (holding c) settled s h best capped =
-        let f = best c refl in
-        settled-parts edge right c settled s (f .2) (f .0) (f .1) capped (rw (le-ltb (rightOf R c) (endOf settled) (omega (arith, f .0, f .1))) refl)
+    pub bound : e .first ≡ cellsIn settled + b .cells
+    unfolding cellsIn
+    bound = s .numbers .first-is
 
-  -- ---- the three steps
+    pub first-last : firstOfLast e (ls .cells) ≡ cellsIn settled
+    first-last = omega (arith, cells-last, bound)
 
-  pub open-stands : (p : Part) (xs′ ws′ : List ℤ) (b : Meant) → Stands R e cells edges ls xs ws b → e .held ≡ false → finished R b ≡ false
-      → PartMade (getD held (e .opened) 0) (getD held (e .opened + 1) 0) (pos 0 -ℤ pos (getD places (e .opened) 0)) xs ws xs′ ws′ p → Stands R
-      (withOpened e p) cells edges ls xs′ ws′ (step R b)
-  open-stands p xs′ ws′ b = open-by (b .opened) (b .carried) p xs′ ws′ (b .hand) (b .settled)
+    pub all-inside : cellsIn settled + b .cells + c .cells ≤ n
+    unfolding cellsIn
+    all-inside = inside R y laid e ls opened carried c (b ∷ settled) s
 
-  pub join-stands : (p : Part) (xs′ ws′ : List ℤ) (b : Meant) → Stands R e cells edges ls xs ws b → e .held ≡ true
-      → ((c : Clump) → b .hand ≡ holding c → rightOf R c < endOf (b .settled))
-      → PartMade (getD held (firstOfLast e cells) 0) (e .hand .end) (pos 0 -ℤ pos (getD places (firstOfLast e cells) 0)) xs ws xs′ ws′ p
-      → Stands R (withJoined e cells held p) cells edges ls xs′ ws′ (step R b)
-  join-stands p xs′ ws′ b = join-by (b .opened) (b .carried) p xs′ ws′ (b .hand) (b .settled)
+    pub start-of-last : getD (y .starts) (firstOfLast e (ls .cells)) 0 ≡ packed R (cellsIn settled)
+    start-of-last = ap (λ (k : ℕ). getD (y .starts) k 0) first-last ∙ laid .start-at (cellsIn settled) (omega (arith, all-inside))
 
-  pub settle-stands : (edge right : ℕ) (b : Meant) → Stands R e cells edges ls xs ws b → e .held ≡ true
-      → ((c : Clump) → b .hand ≡ holding c → (right ≡ rightOf R c) × (endOf (b .settled) ≤ right) × (edge ≡ max (endOf (b .settled)) (leftOf R c)))
-      → Capped e places right
-      → Stands R (withSettled e) (set cells (e .settled) (e .opened - e .first)) (set edges (e .settled) edge)
-      (withPart ls (e .settled) (e .hand)) xs ws (step R b)
-  settle-stands edge right b = settle-by (b .opened) (b .carried) edge right (b .hand) (b .settled)
+    pub bound-of-last : getD (y .bounds) (firstOfLast e (ls .cells)) 0 ≡ heldBefore R (cellsIn settled)
+    bound-of-last = ap (λ (k : ℕ). getD (y .bounds) k 0) first-last ∙ laid .bound-at (cellsIn settled) (omega (arith, all-inside))
 
-  pub again-stands : (p : Part) (xs′ ws′ : List ℤ) (b : Meant) → Stands R e cells edges ls xs ws b → e .held ≡ true
-      → PartMade (getD held (e .first) 0) (getD held (e .opened) 0) (pos 0 -ℤ pos (getD places (e .first) 0)) xs ws xs′ ws′ p
-      → Stands R (withHand e p) cells edges ls xs′ ws′ b
-  again-stands p xs′ ws′ b = again-parts (b .opened) (b .carried) p xs′ ws′ (b .hand) (b .settled)
+    pub bound-between : getD (y .bounds) (e .first) 0 ≡ heldBefore R (cellsIn settled + b .cells)
+    unfolding cellsIn
+    bound-between = bound-first R y laid e ls opened carried c (b ∷ settled) s
+
+    pub bound-past : getD (y .bounds) (e .opened) 0 ≡ heldBefore R (cellsIn settled + b .cells + c .cells)
+    unfolding cellsIn
+    bound-past = bound-last R y laid e ls opened carried c (b ∷ settled) s
+
+    pub joined-stands : (keys′ : List ℕ) (r : Joined) → rightOf R c < endOf (b ∷ settled)
+        → JoinedAs (meetingOf e (y .starts) (y .bounds) ls) (ls .keys) keys′ (y .at) (y .slope) r
+        → Stands R y (withJoined e (ls .cells) (y .bounds) (r .kept)) (withKeys ls keys′) (step R (bench (holding c) (b ∷ settled)))
+    unfolding step stepBy joins joined cellsIn
+    joined-stands keys′ r right j =
+        let old = s .numbers in
+        let whole = old .proper in
+        let before = bench (holding c) (b ∷ settled) in
+        let next : step R before ≡ joins before (b ∷ settled) c = rw (lt-ltb (rightOf R c) (endOf (b ∷ settled)) right) refl in
+        let hb = clump-held R (cellsIn settled) b (whole .all-made .1 .0) in
+        let hc = clump-held R (cellsIn settled + b .cells) c (whole .all-made .0) in
+        let g : cellsIn settled + b .cells + c .cells ≡ cellsIn settled + (b .cells + c .cells) = omega arith in
+        let most = held-most R (cellsIn settled + b .cells) (laid .few-nets) in
+        let out : Outside (ls .keys) keys′ (heldBefore R (cellsIn settled)) (heldBefore R (cellsIn settled + b .cells + c .cells)) =
+        rw (bound-of-last, bound-past) at (j .outside) in
+        let cap : r .kept .cap ≡ min (b .edge - packed R (cellsIn settled)) (e .hand .cap) = j .cap-is ∙ rw (edge-last, start-of-last) refl in
+        let rises = stands-rise R (R .width) b settled (whole .all-made .1) (old .apart-all) in
+        let hand = s .hand in
+        rw (lt-ltb (rightOf R c) (endOf (b ∷ settled)) right)
+        (record {
+          numbers =
+              record {
+                proper = subst (Proper R) next (step-proper R before whole);
+                within = old .within;
+                apart-all = subst (λ (d : Meant). apart (R .width) (d .settled) ≡ true) next (step-apart R (laid .room) before whole (old .apart-all));
+                few-carried = omega (arith, old .few-carried);
+                opened-is = old .opened-is;
+                first-is = first-last;
+                settled-is = last-place;
+                carried-is = omega (arith, old .carried-is, bound-of-last, bound-between, bound-past);
+                listed = old .listed .2;
+              };
+          roomy = roomy-keys R ls keys′ (out .long) (s .roomy);
+          heaps = heaps-before R y ls keys′ settled (heldBefore R (cellsIn settled)) _ (omega arith) out (s .heaps .1);
+          hand =
+              record {
+                heap = rw (bound-of-last, bound-past, g) at (j .filled);
+                near = subst (λ (i : ℕ). r .kept .cap ≤ limitOf R i) g (omega (arith, hand .near));
+                far =
+                    subst (λ (i : ℕ). (standOf R settled ≤ r .kept .cap) ⊎ (r .kept .cap ≡ limitOf R i)) g
+                    (⊎-elim
+                    (λ (h : standOf R (b ∷ settled) ≤ e .hand .cap). inl (omega arith))
+                    (λ (h : e .hand .cap ≡ limitOf R (cellsIn settled + b .cells + c .cells)).
+                    by-order (e .hand .cap) (b .edge - packed R (cellsIn settled))
+                    (λ (l : e .hand .cap ≤ b .edge - packed R (cellsIn settled)). inr (omega arith))
+                    (λ (l : b .edge - packed R (cellsIn settled) < e .hand .cap). inl (omega arith)))
+                    (hand .far));
+              };
+        })

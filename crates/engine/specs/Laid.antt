@@ -9,18 +9,20 @@ use native.Mathlib.Omega.{arith}
 use lib.ListN.{length, getD, length-append}
 use lib.Dec.{eqb}
 use borrow.Author.Tests.{eqb-true}
-use lib.IntN.{ℤ, pos}
+use lib.IntN.{ℤ}
 use Rattle.rules.specs.Sizes.{widest, mostCells, mostNets}
 use Rattle.rules.specs.Row.{Row, Net}
 use Rattle.rules.specs.Reading.{total}
 use Rattle.rules.specs.Changes.{Change, leftCell, rightCell, leftChange, rightChange, changesOn}
 use Rattle.rules.specs.Bench.{made}
 use Rattle.rules.specs.Steps.{moved}
-use Rattle.slopes.specs.Joined.{sumTo, changesOf, moved-length}
+use Rattle.numbers.specs.Sums.{sumTo, sum-both}
+use Rattle.slopes.specs.Joined.{changesOf, moved-length}
 use Rattle.slopes.specs.Tally.{tallyOf}
 use Rattle.slopes.specs.Sizes.{need, need-append, need-moved}
 use Rattle.slopes.specs.Frame.{packed, framed, framed-none, framed-suc, made-framed}
-use Rattle.changes.specs.Parts.{mostChanges}
+use Rattle.slopes.specs.Stretches.{stretchOf}
+use Rattle.changes.specs.Fills.{mostChanges, Weighed}
 
 -- the changes of the cells before a cell: how many, and what they need
 unfoldable pub heldBefore : Row → ℕ → ℕ
@@ -29,11 +31,31 @@ heldBefore R i = sumTo (λ k. length (changesOf R k)) i
 unfoldable pub needBefore : Row → ℕ → ℕ
 needBefore R i = sumTo (λ k. need (changesOf R k)) i
 
+-- the lists that a row is laid out in: for each cell and past the last, its packed place, how many changes lie before it, and what those need; and the
+-- changes themselves
+pub record Layout : Type 0 where
+  pub starts : List ℕ
+  pub bounds : List ℕ
+  pub needs : List ℕ
+  pub at : List ℤ
+  pub slope : List ℤ
+
+abbrev pub layoutOf : List ℕ → List ℕ → List ℕ → List ℤ → List ℤ → Layout
+layoutOf starts bounds needs at slope = record { starts = starts; bounds = bounds; needs = needs; at = at; slope = slope }
+
 -- a row that is laid out in these lists, and that has room for its cells
-pub record Laid (R : Row) (places held : List ℕ) (needs : List ℤ) : Type 0 where
-  pub place : (i : ℕ) → i ≤ length (R .widths) → getD places i 0 ≡ packed R i
-  pub held-at : (i : ℕ) → i ≤ length (R .widths) → getD held i 0 ≡ heldBefore R i
-  pub need-at : (i : ℕ) → i ≤ length (R .widths) → getD needs i (pos 0) ≡ pos (needBefore R i)
+pub record Laid (R : Row) (y : Layout) : Type 0 where
+  pub starts-long : length (R .widths) + 1 ≤ length (y .starts)
+  pub bounds-long : length (R .widths) + 1 ≤ length (y .bounds)
+  pub needs-long : length (R .widths) + 1 ≤ length (y .needs)
+  pub start-at : (i : ℕ) → i ≤ length (R .widths) → getD (y .starts) i 0 ≡ packed R i
+  pub bound-at : (i : ℕ) → i ≤ length (R .widths) → getD (y .bounds) i 0 ≡ heldBefore R i
+  pub need-at : (i : ℕ) → i ≤ length (R .widths) → getD (y .needs) i 0 ≡ needBefore R i
+  pub at-long : heldBefore R (length (R .widths)) ≤ length (y .at)
+  pub slope-long : heldBefore R (length (R .widths)) ≤ length (y .slope)
+  pub weighed : Weighed (y .slope) 0 (heldBefore R (length (R .widths)))
+  pub stretch : (a n : ℕ) → a + n ≤ length (R .widths)
+      → stretchOf (y .at) (y .slope) (heldBefore R a) (heldBefore R (a + n) - heldBefore R a) ≡ framed R a n
   pub room : total (R .widths) ≤ R .width
   pub width-most : R .width ≤ widest
   pub few-cells : length (R .widths) ≤ mostCells
@@ -80,16 +102,6 @@ module _ (R : Row) where
 
 -- ---- two changes a net
 
-sum-add : (f g : ℕ → ℕ) (n : ℕ) → sumTo (λ i. f i + g i) n ≡ sumTo f n + sumTo g n
-unfolding sumTo
-sum-add f g zero = refl
-sum-add f g (suc n) = omega (arith, sum-add f g n)
-
-sum-cong : (f g : ℕ → ℕ) → ((i : ℕ) → f i ≡ g i) → (n : ℕ) → sumTo f n ≡ sumTo g n
-unfolding sumTo
-sum-cong f g h zero = refl
-sum-cong f g h (suc n) = omega (arith, sum-cong f g h n, h n)
-
 sum-none : (n : ℕ) → sumTo (λ i. 0) n ≡ 0
 unfolding sumTo
 sum-none zero = refl
@@ -130,18 +142,19 @@ held-of W (t ∷ ts) n =
     let rest : ℕ → ℕ = λ k. length (changesOn W k ts) in
     omega (
       arith,
-      sum-cong (λ k. length (changesOn W k (t ∷ ts))) (λ k. l k + (r k + rest k))
-          (λ k.
+      sum-both l (λ k. r k + rest k) (λ k. length (changesOn W k (t ∷ ts))) n
+          (λ k h.
           one-if (eqb (leftCell t) k) (leftChange W t) _
-          ∙ ap (λ (m : ℕ). l k + m) (one-if (eqb (rightCell t) k) (rightChange t) (changesOn W k ts)))
-          n,
-      sum-add l (λ k. r k + rest k) n,
-      sum-add r rest n,
+          ∙ ap (λ (m : ℕ). l k + m) (one-if (eqb (rightCell t) k) (rightChange t) (changesOn W k ts))),
+      sum-both r rest (λ k. r k + rest k) n (λ k h. refl),
       sum-once (leftCell t) n,
       sum-once (rightCell t) n,
       held-of W ts n,
     )
 
-pub held-most : (R : Row) (n : ℕ) → length (R .nets) ≤ mostNets → heldBefore R n ≤ mostChanges
+pub held-nets : (R : Row) (n : ℕ) → heldBefore R n ≤ 2 * length (R .nets)
 unfolding heldBefore
-held-most R n h = omega (arith, held-of (R .width) (R .nets) n)
+held-nets R n = held-of (R .width) (R .nets) n
+
+pub held-most : (R : Row) (n : ℕ) → length (R .nets) ≤ mostNets → heldBefore R n ≤ mostChanges
+held-most R n h = omega (arith, held-nets R n)

@@ -1,8 +1,5 @@
--- What the engine's lists and numbers say of a row and of a bench, what each step does to them, and why it stays true.
-pub mod Holds
+-- Laid: how a row lies in the lists. Stands: the invariant. Taken: what each step does. Ready: what a step, a run and a slice ask and leave.
 pub mod Laid
 pub mod Stands
 pub mod Taken
-pub mod Best
 pub mod Ready
-pub mod SortedLaws

@@ -1,93 +1,68 @@
--- The engine's invariant (document 01, "The steps"): its lists and numbers stand for a bench of the definitions. Each clump's changes are a part of
--- the lists that is in order, a settled clump's up to where it stands, and each cell that is not yet opened has its changes there by itself.
-use Prim.Native.Nat.{ℕ, _+_, _-_, _*_, _≤_, _<_}
+-- The engine's invariant (document 01, "The steps"): its lists and numbers stand for a bench of the definitions. The changes of each clump lie in a
+-- heap at the beginning of the clump's own stretch of the keys, a settled clump's up to where it stands.
+use Prim.Native.Nat.{ℕ, _+_, _-_, _*_, _≤_}
 use mathlib.Core.Path.{_≡_}
-use mathlib.Core.Bool.{Bool, true, false}
+use mathlib.Core.Bool.{true}
+use mathlib.Core.Logic.{_⊎_}
 use mathlib.Core.List.{List, [], _∷_}
-use lib.ListN.{length, getD, set}
-use lib.IntN.{ℤ, pos, _-ℤ_}
+use lib.ListN.{length, getD}
 use Rattle.rules.specs.Sizes.{mostCells, mostCarried}
 use Rattle.rules.specs.Row.{Row}
 use Rattle.rules.specs.Steps.{Clump, Hand, empty, holding, Bench as Meant}
 use Rattle.rules.specs.Bench.{apart}
-use Rattle.slopes.specs.Frame.{packed, framed}
+use Rattle.slopes.specs.Frame.{packed}
 use Rattle.slopes.specs.Forgotten.{cellsIn, allClumps, Proper}
-use Rattle.changes.specs.Parts.{mostChanges}
-use Rattle.changes.specs.Ends.{Weighed}
-use Rattle.changes.specs.Ordered.{Ordered}
-use Rattle.changes.specs.declared.Part.{Part}
-use Rattle.engine.specs.Holds.{Holds}
-use Rattle.engine.specs.Laid.{heldBefore}
+use Rattle.changes.specs.Fills.{mostChanges, Filled}
+use Rattle.changes.specs.declared.Kept.{Kept}
+use Rattle.engine.specs.Laid.{heldBefore, Layout}
 use Rattle.engine.specs.declared.Bench.{Bench}
 
--- ---- parts in order
-
--- the changes of so many cells from `first` on are that part, which is in order from the row's left end on
-pub record InOrder (R : Row) (xs ws : List ℤ) (first cells : ℕ) (p : Part) : Type 0 where
-  pub first-is : p .first ≡ heldBefore R first
-  pub end-is : p .end ≡ heldBefore R (first + cells)
-  pub low-is : p .low ≡ pos 0 -ℤ pos (packed R first)
-  pub ordered : Ordered xs ws p
-  pub holds : Holds xs ws (heldBefore R first) (heldBefore R (first + cells)) (framed R first cells)
-
--- what is listed of settled clumps' parts, by their order: where what is sorted begins and ends, and the sum
+-- the lists that the steps write: of each settled clump its cells, its edge, and what is kept of its changes; and the keys of all heaps
 pub record Lists : Type 0 where
-  pub froms : List ℕ
-  pub tos : List ℕ
-  pub sums : List ℤ
+  pub cells : List ℕ
+  pub edges : List ℕ
+  pub sizes : List ℕ
+  pub sums : List ℕ
+  pub keys : List ℕ
 
-abbrev pub listsOf : List ℕ → List ℕ → List ℤ → Lists
-listsOf froms tos sums = record { froms = froms; tos = tos; sums = sums }
+abbrev pub listsOf : List ℕ → List ℕ → List ℕ → List ℕ → List ℕ → Lists
+listsOf cells edges sizes sums keys = record { cells = cells; edges = edges; sizes = sizes; sums = sums; keys = keys }
 
--- with that part listed k-th
-abbrev pub withPart : Lists → ℕ → Part → Lists
-withPart ls k p = listsOf (set (ls .froms) k (p .from)) (set (ls .tos) k (p .to)) (set (ls .sums) k (p .sum))
+-- ---- sites counted from where a clump would start if all cells lay packed to the left
 
--- the part of the clump that is settled k-th, with that first cell: it is in order up to where it stands
-abbrev pub settledPart : Row → Lists → ℕ → ℕ → Clump → Part
-settledPart R ls first k c =
-    record {
-      first = heldBefore R first;
-      from = getD (ls .froms) k 0;
-      to = getD (ls .tos) k 0;
-      end = heldBefore R (first + c .cells);
-      low = pos 0 -ℤ pos (packed R first);
-      cap = pos (c .edge) -ℤ pos (packed R first);
-      sum = getD (ls .sums) k (pos 0);
-    }
+-- the last settled clump stands there; 0 if there is none
+abbrev pub standOf : Row → List Clump → ℕ
+standOf R [] = 0
+standOf R (c ∷ cs) = c .edge - packed R (cellsIn cs)
 
--- each settled clump has such a part, the last one first; the cells of each follow those of the one before it
-abbrev pub AllParts : Row → Lists → List ℤ → List ℤ → List Clump → Type 0
-AllParts R ls xs ws [] = Unit {0}
-AllParts R ls xs ws (c ∷ cs) = InOrder R xs ws (cellsIn cs) (c .cells) (settledPart R ls (cellsIn cs) (length cs) c) × AllParts R ls xs ws cs
+-- the right limit of a clump that ends with the last of so many cells
+abbrev pub limitOf : Row → ℕ → ℕ
+limitOf R opened = R .width - packed R opened
 
--- so has the clump in hand, if there is one, whose cells follow those
-abbrev pub HandPart : Row → Part → List ℤ → List ℤ → ℕ → Hand → Type 0
-HandPart R p xs ws first empty = Unit {0}
-HandPart R p xs ws first (holding c) = InOrder R xs ws first (c .cells) p
+-- ---- heaps
 
--- the cells from `first` on have their changes each by itself
-abbrev pub Each : Row → List ℤ → List ℤ → ℕ → Type 0
-Each R xs ws first = (i : ℕ) → first ≤ i → i < length (R .widths) → Holds xs ws (heldBefore R i) (heldBefore R (i + 1)) (framed R i 1)
+-- so many cells from `first` on have their changes in a heap, as far as they are kept
+abbrev pub InHeap : Row → Layout → List ℕ → ℕ → ℕ → Kept → Type 0
+InHeap R y keys first cells k = Filled keys (y .at) (y .slope) (heldBefore R first) (heldBefore R first) (heldBefore R (first + cells)) k
 
--- all clumps have their parts, and the cells after them their changes
-pub record Sorted (R : Row) (p : Part) (ls : Lists) (xs ws : List ℤ) (hand : Hand) (settled : List Clump) : Type 0 where
-  pub parts : AllParts R ls xs ws settled
-  pub in-hand : HandPart R p xs ws (cellsIn settled) hand
-  pub rest : Each R xs ws (cellsIn (allClumps hand settled))
-  pub weighed : Weighed ws 0 (heldBefore R (length (R .widths)))
-  pub long : length xs ≡ mostChanges
-  pub wide : length ws ≡ mostChanges
-  pub froms-long : length (ls .froms) ≡ mostCells
-  pub tos-long : length (ls .tos) ≡ mostCells
-  pub sums-long : length (ls .sums) ≡ mostCells
+-- what is kept of the clump c that was settled after these
+abbrev pub keptOf : Row → Lists → Clump → List Clump → Kept
+keptOf R ls c cs = record { size = getD (ls .sizes) (length cs) 0; sum = getD (ls .sums) (length cs) 0; cap = standOf R (c ∷ cs) }
 
--- no clump has its part yet: each cell of the row has its changes by itself
-pub record Apiece (R : Row) (xs ws : List ℤ) : Type 0 where
-  pub each : Each R xs ws 0
-  pub weighed : Weighed ws 0 (heldBefore R (length (R .widths)))
-  pub long : length xs ≡ mostChanges
-  pub wide : length ws ≡ mostChanges
+-- each settled clump has its heap, the last one first
+abbrev pub AllHeaps : Row → Layout → Lists → List Clump → Type 0
+AllHeaps R y ls [] = Unit {0}
+AllHeaps R y ls (c ∷ cs) = InHeap R y (ls .keys) (cellsIn cs) (c .cells) (keptOf R ls c cs) × AllHeaps R y ls cs
+
+-- the clump in hand has one up to its limit, or up to a cap that is not left of where the last settled clump stands
+pub record InHand (R : Row) (y : Layout) (keys : List ℕ) (k : Kept) (c : Clump) (settled : List Clump) : Type 0 where
+  pub heap : InHeap R y keys (cellsIn settled) (c .cells) k
+  pub near : k .cap ≤ limitOf R (cellsIn settled + c .cells)
+  pub far : (standOf R settled ≤ k .cap) ⊎ (k .cap ≡ limitOf R (cellsIn settled + c .cells))
+
+abbrev pub HandHeap : Row → Layout → List ℕ → Kept → Hand → List Clump → Type 0
+HandHeap R y keys k empty settled = Unit {0}
+HandHeap R y keys k (holding c) settled = InHand R y keys k c settled
 
 -- ---- numbers
 
@@ -96,31 +71,33 @@ abbrev pub Listed : List ℕ → List ℕ → List Clump → Type 0
 Listed cells edges [] = Unit {0}
 Listed cells edges (c ∷ cs) = (getD cells (length cs) 0 ≡ c .cells) × (getD edges (length cs) 0 ≡ c .edge) × Listed cells edges cs
 
--- is a clump in hand?
-abbrev pub inHand : Hand → Bool
-inHand empty = false
-inHand (holding c) = true
-
 -- a join carries at most all changes and makes one clump of two, and only opening a cell makes a clump more: so no run carries more than this
 abbrev pub carriedLimit : ℕ
 carriedLimit = mostCarried + mostChanges * mostCells
 
--- what the numbers say
+-- what the numbers say: the clump in hand, if there is one, has the cells from `first` up to those opened
 pub record Numbers (R : Row) (e : Bench) (cells edges : List ℕ) (b : Meant) : Type 0 where
   pub proper : Proper R b
   pub within : b .opened ≤ length (R .widths)
   pub apart-all : apart (R .width) (b .settled) ≡ true
   pub few-carried : b .carried + mostChanges * (length (allClumps (b .hand) (b .settled)) + (length (R .widths) - b .opened)) ≤ carriedLimit
   pub opened-is : e .opened ≡ b .opened
-  pub held-is : e .held ≡ inHand (b .hand)
-  pub first-is : e .held ≡ true → e .first ≡ cellsIn (b .settled)
+  pub first-is : e .first ≡ cellsIn (b .settled)
   pub settled-is : e .settled ≡ length (b .settled)
   pub carried-is : e .carried .0 ≡ b .carried
   pub listed : Listed cells edges (b .settled)
-  pub cells-long : length cells ≡ mostCells
-  pub edges-long : length edges ≡ mostCells
+
+-- there is room for a clump of each cell, and for the keys of all changes
+pub record Roomy (R : Row) (ls : Lists) : Type 0 where
+  pub cells-long : length (R .widths) ≤ length (ls .cells)
+  pub edges-long : length (R .widths) ≤ length (ls .edges)
+  pub sizes-long : length (R .widths) ≤ length (ls .sizes)
+  pub sums-long : length (R .widths) ≤ length (ls .sums)
+  pub keys-long : heldBefore R (length (R .widths)) ≤ length (ls .keys)
 
 -- the numbers and the lists stand for the bench b
-pub record Stands (R : Row) (e : Bench) (cells edges : List ℕ) (ls : Lists) (xs ws : List ℤ) (b : Meant) : Type 0 where
-  pub numbers : Numbers R e cells edges b
-  pub sorted : Sorted R (e .hand) ls xs ws (b .hand) (b .settled)
+pub record Stands (R : Row) (y : Layout) (e : Bench) (ls : Lists) (b : Meant) : Type 0 where
+  pub numbers : Numbers R e (ls .cells) (ls .edges) b
+  pub roomy : Roomy R ls
+  pub heaps : AllHeaps R y ls (b .settled)
+  pub hand : HandHeap R y (ls .keys) (e .hand) (b .hand) (b .settled)

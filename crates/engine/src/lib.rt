@@ -1,50 +1,39 @@
 // The engine: the published steps open, join and settle on lent lists, and a run of them (document 01, "The steps"). All changes of all cells lie
-// in one pair of lists, cell after cell, each cell's counted from its packed place. So a clump's changes are one part of them, and a join moves none
-// of them left: it puts the two parts in one order.
+// in one pair of lists, cell after cell, each counted from its cell's packed start, and are only read. So a clump's changes are one stretch of them, a
+// join moves none of them left, and what may still be asked for of them lies in a heap in the same stretch of the keys.
 ghost use mathlib.Core.Path.{_≡_};
-ghost use mathlib.Core.Bool.{true, false, not, _&&_};
+ghost use mathlib.Core.Bool.{not, _&&_};
 ghost use mathlib.Core.List.{List};
-ghost use Prim.Native.Nat.{_+_, _-_, _≤_, _<_, max};
+ghost use Prim.Native.Nat.{ℕ, _+_, _-_, _≤_};
 ghost use lib.ListN.{length, getD, set};
-ghost use lib.Dec.{leb};
-ghost use lib.IntN.{ℤ, pos, _+ℤ_, _-ℤ_};
-ghost use lib.Signed.{_≤ℤ_};
-ghost use mir.Syntax.{w64};
-ghost use mir.Val.{SFits};
-ghost use Rattle.rules.specs.Sizes.{widest, mostCells};
-ghost use Rattle.rules.specs.Row.{Row};
-ghost use Rattle.rules.specs.Steps.{Bench as Meant, finished, step, run, stepsTaken};
-ghost use Rattle.engine.specs.Taken.{firstOfLast, endOfLast, lastPart, withHand, withOpened, withJoined, withSettled, PartMade, Makes, Ends, HasLast, Joins};
-ghost use Rattle.engine.specs.Best.{Spans, FoundIn, IsBest, Capped};
-ghost use Rattle.engine.specs.Laid.{Laid};
-ghost use Rattle.engine.specs.Stands.{listsOf, withPart, Apiece, Numbers, Stands};
-ghost use Rattle.engine.specs.Ready.{Unfinished, Counted, Found, Saved, Resumes};
+ghost use lib.Dec.{eqb, leb, ltb};
+ghost use Rattle.changes.specs.Fills.{Outside};
+ghost use Rattle.changes.specs.Steps.{JoinedAs};
+ghost use Rattle.engine.specs.Laid.{layoutOf};
+ghost use Rattle.engine.specs.Stands.{listsOf};
+ghost use Rattle.engine.specs.Taken.{firstOfLast, standOfLast, HasLast, withHand, withOpened, withJoined, withSettled, Makes, MadeAs, Sure, Seeks, FindsAs};
+ghost use Rattle.engine.specs.Taken.{meetingOf, Joins, Settles};
+ghost use Rattle.engine.specs.Ready.{Unfinished, StepsAs, Resumes, RemadeAs, Counted, RunsAs, ResumesAs};
+use changes::Kept;
 use changes::Meeting;
-use changes::Part;
-use changes::arrange;
+use changes::made;
 use rules::Carried;
-use rules::ENDS;
-use rules::MOST_CELLS;
-use rules::MOST_CHANGES;
-use rules::Site;
 use rules::Steps;
 
-// The work so far: how many cells are opened, whether a clump is in hand, which cell it begins with and its part of the changes, how many clumps
-// are settled, and how many changes were carried.
+// The work so far: how many cells are opened; which cell the clump in hand begins with, none being in hand where that is not opened yet; how many
+// clumps are settled; what is kept of the changes in hand; and how many changes were carried.
 pub struct Bench {
     pub opened: usize,
-    pub held: bool,
     pub first: usize,
     pub settled: usize,
+    pub hand: Kept,
     pub carried: Carried,
-    pub hand: Part,
 }
 
-// l and r of a clump, and whether they are sure: its changes are in order up to there.
-pub struct Best {
-    pub left: Site,
-    pub right: Site,
-    pub sure: bool,
+// What the clump in hand does next: what is kept of its changes, and whether it joins the last settled clump. Otherwise it settles at the cap.
+pub struct Found {
+    pub hand: Kept,
+    pub joins: bool,
 }
 
 fn wide(x: u16) -> usize
@@ -53,370 +42,332 @@ fn wide(x: u16) -> usize
     x as usize
 }
 
-fn larger(a: Site, b: Site) -> Site
-    ensures { λ r. ⌜ r .0 ≡ max (a .0) (b .0) ⌝ }
+// Does the end of the last settled clump exceed r? It is right of 0, and left of it more than is wanted is passed.
+fn exceeds(end: u32, short: bool, sum: u32, want: u32) -> bool
+    ensures { λ r. ⌜ r ≡ (ltb 0 end && (not short && ltb want sum)) ⌝ }
 {
-    if a.0 < b.0 { b } else { a }
-}
-
-// Where a lies, counted from b.
-fn counted_from(a: u32, b: u32) -> i32
-    requires { ⌜ (a ≤ widest) × (b ≤ widest) ⌝ }
-    ensures { λ r. ⌜ r ≡ pos a -ℤ pos b ⌝ }
-{
-    (a as i32) - (b as i32)
-}
-
-// The site that lies at x, counted from b.
-fn site(x: i32, b: u32) -> Site
-    requires { ⌜ (b ≤ widest) × ((pos 0 -ℤ pos b) ≤ℤ x) × (x ≤ℤ pos widest) ⌝ }
-    ensures { λ r. ⌜ pos (r .0) ≡ x +ℤ pos b ⌝ }
-{
-    Site((x + (b as i32)) as u32)
-}
-
-fn difference(a: i64, b: i64) -> i64
-    requires { ⌜ SFits w64 (a -ℤ b) ⌝ }
-    ensures { λ r. ⌜ r ≡ a -ℤ b ⌝ }
-{
-    a - b
+    if end == 0 {
+        return false;
+    }
+    if short {
+        return false;
+    }
+    want < sum
 }
 
 impl Bench {
-    // The clump in hand with its changes put in order up to its right limit.
-    fn arranged(
+    // The clump in hand with its changes, up to its right limit, in a heap.
+    fn filled(
         self,
         width: u32,
-        places: &[u32; ENDS],
-        held: &[usize; ENDS],
-        at: &mut [i32; MOST_CHANGES],
-        slope: &mut [i64; MOST_CHANGES],
+        starts: &[u32],
+        bounds: &[u16],
+        at: &[i32],
+        slope: &[i64],
+        keys: &mut [u32],
     ) -> Self
-        requires { ⌜ Makes (self .first) (self .opened) width (now places) (now held) (now at) (now slope) ⌝ }
+        requires { ⌜ Makes (self .first) (self .opened) width (now starts) (now bounds) (now at) (now slope) (now keys) ⌝ }
         ensures { λ r. ⌜ r ≡ withHand self (r .hand) ⌝ }
-        ensures { λ r. ⌜ r .hand .cap ≡ pos width -ℤ pos (getD (now (places .entry)) (self .opened) 0) ⌝ }
-        ensures { λ r. ⌜ PartMade (getD (now (held .entry)) (self .first) 0) (getD (now (held .entry)) (self .opened) 0) (pos 0 -ℤ pos (getD (now (places .entry)) (self .first) 0)) (now (at .entry)) (now (slope .entry)) (now (at .exit)) (now (slope .exit)) (r .hand) ⌝ }
+        ensures { λ r. ⌜ MadeAs (self .first) (self .opened) width (now (starts .entry)) (now (bounds .entry)) (now (at .entry)) (now (slope .entry)) (now (keys .entry)) (now (keys .exit)) (r .hand) ⌝ }
     {
         let first = self.first;
         let opened = self.opened;
-        let low = counted_from(0, places[first]);
-        let cap = counted_from(width, places[opened]);
-        let part = arrange(at, slope, held[first], held[opened], low, cap);
+        let base = wide(bounds[first]);
+        let end = wide(bounds[opened]);
+        let kept = made(keys, at, slope, base, end, width - starts[opened]);
         let carried = self.carried;
         Bench {
             opened: opened,
-            held: self.held,
-            first: self.first,
+            first: first,
             settled: self.settled,
+            hand: kept,
             carried: carried,
-            hand: part,
         }
     }
 
-    // Open: the next cell is in hand as a clump, and its changes are put in order.
+    // Open: the next cell is in hand as a clump.
     pub fn open(
         self,
         width: u32,
-        places: &[u32; ENDS],
-        held: &[usize; ENDS],
-        at: &mut [i32; MOST_CHANGES],
-        slope: &mut [i64; MOST_CHANGES],
+        starts: &[u32],
+        bounds: &[u16],
+        at: &[i32],
+        slope: &[i64],
+        keys: &mut [u32],
     ) -> Self
-        requires { ⌜ Makes (self .opened) (self .opened + 1) width (now places) (now held) (now at) (now slope) ⌝ }
+        requires { ⌜ Makes (self .first) (self .opened + 1) width (now starts) (now bounds) (now at) (now slope) (now keys) ⌝ }
         ensures { λ r. ⌜ r ≡ withOpened self (r .hand) ⌝ }
-        ensures { λ r. ⌜ PartMade (getD (now (held .entry)) (self .opened) 0) (getD (now (held .entry)) (self .opened + 1) 0) (pos 0 -ℤ pos (getD (now (places .entry)) (self .opened) 0)) (now (at .entry)) (now (slope .entry)) (now (at .exit)) (now (slope .exit)) (r .hand) ⌝ }
+        ensures { λ r. ⌜ MadeAs (self .first) (self .opened + 1) width (now (starts .entry)) (now (bounds .entry)) (now (at .entry)) (now (slope .entry)) (now (keys .entry)) (now (keys .exit)) (r .hand) ⌝ }
     {
-        let cell = self.opened;
-        let carried = self.carried;
         let hand = self.hand;
+        let carried = self.carried;
         let next = Bench {
-            opened: cell + 1,
-            held: true,
-            first: cell,
+            opened: self.opened + 1,
+            first: self.first,
             settled: self.settled,
-            carried: carried,
             hand: hand,
+            carried: carried,
         };
-        next.arranged(width, places, held, at, slope)
+        next.filled(width, starts, bounds, at, slope, keys)
     }
 
-    // The part of the last settled clump: its changes are in order up to where it stands.
-    fn last(
-        self,
-        places: &[u32; ENDS],
-        held: &[usize; ENDS],
-        cells: &[u16; MOST_CELLS],
-        edges: &[u32; MOST_CELLS],
-        froms: &[usize; MOST_CELLS],
-        tos: &[usize; MOST_CELLS],
-        sums: &[i64; MOST_CELLS],
-    ) -> Part
-        requires { ⌜ HasLast self (now places) (now cells) (now edges) ⌝ }
-        ensures { λ r. ⌜ r ≡ lastPart self (now (places .entry)) (now (held .entry)) (now (cells .entry)) (now (edges .entry)) (listsOf (now (froms .entry)) (now (tos .entry)) (now (sums .entry))) ⌝ }
+    // The first cell of the last settled clump, which ends where the clump in hand begins.
+    fn first_of_last(self, cells: &[u16]) -> usize
+        requires { ⌜ (1 ≤ self .settled) × (self .settled ≤ length (now cells)) × (getD (now cells) (self .settled - 1) 0 ≤ self .first) ⌝ }
+        ensures { λ r. ⌜ r ≡ firstOfLast self (now (cells .entry)) ⌝ }
     {
         let last = self.settled - 1;
-        let bound = self.first;
-        let first = bound - wide(cells[last]);
-        let start = places[first];
-        Part {
-            first: held[first],
-            from: froms[last],
-            to: tos[last],
-            end: held[bound],
-            low: counted_from(0, start),
-            cap: counted_from(edges[last], start),
-            sum: sums[last],
-        }
+        self.first - wide(cells[last])
     }
 
-    // Join: the last settled clump and the one in hand are one clump in hand. Their two parts meet, and the shorter is put across.
+    // Where the last settled clump stands, counted from its packed start; 0 if there is none.
+    fn stand(self, starts: &[u32], cells: &[u16], edges: &[u32]) -> u32
+        requires { ⌜ HasLast self (now starts) (now cells) (now edges) ⌝ }
+        ensures { λ r. ⌜ r ≡ standOfLast self (now (starts .entry)) (now (cells .entry)) (now (edges .entry)) ⌝ }
+    {
+        if self.settled == 0 {
+            return 0;
+        }
+        let last = self.settled - 1;
+        let first = self.first_of_last(cells);
+        edges[last] - starts[first]
+    }
+
+    // Join: the last settled clump and the one in hand are one clump in hand. The changes of the side that has fewer are put into the other's heap.
     pub fn join(
         self,
-        places: &[u32; ENDS],
-        held: &[usize; ENDS],
-        at: &mut [i32; MOST_CHANGES],
-        slope: &mut [i64; MOST_CHANGES],
-        cells: &[u16; MOST_CELLS],
-        edges: &[u32; MOST_CELLS],
-        froms: &[usize; MOST_CELLS],
-        tos: &[usize; MOST_CELLS],
-        sums: &[i64; MOST_CELLS],
+        starts: &[u32],
+        bounds: &[u16],
+        at: &[i32],
+        slope: &[i64],
+        cells: &[u16],
+        edges: &[u32],
+        sizes: &[u16],
+        sums: &[u32],
+        keys: &mut [u32],
     ) -> Self
-        requires { ⌜ Joins self (now places) (now held) (now cells) (now edges) (listsOf (now froms) (now tos) (now sums)) (now at) (now slope) ⌝ }
-        ensures { λ r. ⌜ r ≡ withJoined self (now (cells .entry)) (now (held .entry)) (r .hand) ⌝ }
-        ensures { λ r. ⌜ PartMade (getD (now (held .entry)) (firstOfLast self (now (cells .entry))) 0) (self .hand .end) (pos 0 -ℤ pos (getD (now (places .entry)) (firstOfLast self (now (cells .entry))) 0)) (now (at .entry)) (now (slope .entry)) (now (at .exit)) (now (slope .exit)) (r .hand) ⌝ }
+        requires { ⌜ Joins self (now starts) (now bounds) (now at) (now slope) (listsOf (now cells) (now edges) (now sizes) (now sums) (now keys)) ⌝ }
+        ensures { λ r. ⌜ r ≡ withJoined self (now (cells .entry)) (now (bounds .entry)) (r .hand) ⌝ }
+        ensures { λ r. ⌜ JoinedAs (meetingOf self (now (starts .entry)) (now (bounds .entry)) (listsOf (now (cells .entry)) (now (edges .entry)) (now (sizes .entry)) (now (sums .entry)) (now (keys .entry)))) (now (keys .entry)) (now (keys .exit)) (now (at .entry)) (now (slope .entry)) (record { kept = r .hand; carried = r .carried }) ⌝ }
     {
         let last = self.settled - 1;
+        let first = self.first_of_last(cells);
         let bound = self.first;
-        let first = bound - wide(cells[last]);
-        let left = self.last(places, held, cells, edges, froms, tos, sums);
+        let opened = self.opened;
+        let left = Kept {
+            size: wide(sizes[last]),
+            sum: sums[last],
+            cap: edges[last] - starts[first],
+        };
         let right = self.hand;
         let carried = self.carried;
         let meeting = Meeting {
+            first: wide(bounds[first]),
+            bound: wide(bounds[bound]),
+            end: wide(bounds[opened]),
             left: left,
             right: right,
             carried: carried,
         };
-        let joined = meeting.join(at, slope);
-        let part = joined.part;
+        let joined = meeting.join(keys, at, slope);
+        let kept = joined.kept;
         let counted = joined.carried;
         Bench {
-            opened: self.opened,
-            held: true,
+            opened: opened,
             first: first,
             settled: last,
+            hand: kept,
             carried: counted,
-            hand: part,
         }
     }
 
-    // Settle: the clump in hand stands at that edge.
+    // Settle: the clump in hand stands at the cap of what is kept of it, counted from its packed start.
     pub fn settle(
         self,
-        edge: Site,
-        cells: &mut [u16; MOST_CELLS],
-        edges: &mut [u32; MOST_CELLS],
-        froms: &mut [usize; MOST_CELLS],
-        tos: &mut [usize; MOST_CELLS],
-        sums: &mut [i64; MOST_CELLS],
+        starts: &[u32],
+        cells: &mut [u16],
+        edges: &mut [u32],
+        sizes: &mut [u16],
+        sums: &mut [u32],
     ) -> Self
-        requires { ⌜ (self .settled < mostCells) × (self .first ≤ self .opened) × (self .opened ≤ mostCells) ⌝ }
+        requires { ⌜ Settles self (now starts) (now cells) (now edges) (now sizes) (now sums) ⌝ }
         ensures { λ r. ⌜ r ≡ withSettled self ⌝ }
         ensures { λ _. ⌜ now (cells .exit) ≡ set (now (cells .entry)) (self .settled) (self .opened - self .first) ⌝ }
-        ensures { λ _. ⌜ now (edges .exit) ≡ set (now (edges .entry)) (self .settled) (edge .0) ⌝ }
-        ensures { λ _. ⌜ (listsOf (now (froms .exit)) (now (tos .exit)) (now (sums .exit))) ≡ withPart (listsOf (now (froms .entry)) (now (tos .entry)) (now (sums .entry))) (self .settled) (self .hand) ⌝ }
+        ensures { λ _. ⌜ now (edges .exit) ≡ set (now (edges .entry)) (self .settled) (self .hand .cap + getD (now (starts .entry)) (self .first) 0) ⌝ }
+        ensures { λ _. ⌜ now (sizes .exit) ≡ set (now (sizes .entry)) (self .settled) (self .hand .size) ⌝ }
+        ensures { λ _. ⌜ now (sums .exit) ≡ set (now (sums .entry)) (self .settled) (self .hand .sum) ⌝ }
     {
-        let place = self.settled;
-        let count = self.opened - self.first;
-        cells[place] = count as u16;
-        edges[place] = edge.0;
+        let k = self.settled;
+        let first = self.first;
+        let count = self.opened - first;
         let hand = self.hand;
-        froms[place] = hand.from;
-        tos[place] = hand.to;
-        let sum = hand.sum;
-        sums[place] = sum;
+        cells[k] = count as u16;
+        edges[k] = hand.cap + starts[first];
+        sizes[k] = hand.size as u16;
+        sums[k] = hand.sum;
         let carried = self.carried;
         Bench {
             opened: self.opened,
-            held: false,
-            first: self.first,
-            settled: place + 1,
-            carried: carried,
+            first: self.opened,
+            settled: k + 1,
             hand: hand,
-        }
-    }
-
-    // The end of the last settled clump, 0 if none.
-    pub fn end(
-        self,
-        places: &[u32; ENDS],
-        cells: &[u16; MOST_CELLS],
-        edges: &[u32; MOST_CELLS],
-    ) -> Site
-        requires { ⌜ Ends self (now places) (now cells) (now edges) ⌝ }
-        ensures { λ r. ⌜ r .0 ≡ endOfLast self (now (places .entry)) (now (cells .entry)) (now (edges .entry)) ⌝ }
-    {
-        if self.settled == 0 {
-            return Site(0);
-        }
-        let last = self.settled - 1;
-        let bound = self.first;
-        let first = bound - wide(cells[last]);
-        Site(edges[last] + (places[bound] - places[first]))
-    }
-
-    // The best interval of the clump in hand, found among its changes within the limits of the row.
-    pub fn best(
-        self,
-        width: u32,
-        places: &[u32; ENDS],
-        need: &[i64; ENDS],
-        at: &[i32; MOST_CHANGES],
-        slope: &[i64; MOST_CHANGES],
-    ) -> Best
-        requires { ⌜ Spans self width (now places) (now need) (now at) (now slope) ⌝ }
-        ensures { λ r. ⌜ (r .sure ≡ true → IsBest self width (now (places .entry)) (now (need .entry)) (now (at .entry)) (now (slope .entry)) (r .left .0) (r .right .0)) ⌝ }
-        ensures { λ r. ⌜ (r .sure ≡ true → Capped self (now (places .entry)) (r .right .0)) ⌝ }
-        ensures { λ r. ⌜ (self .hand .cap ≡ pos width -ℤ pos (getD (now (places .entry)) (self .opened) 0) → r .sure ≡ true) ⌝ }
-    {
-        let first = self.first;
-        let opened = self.opened;
-        let start = places[first];
-        let high = counted_from(width, places[opened]);
-        let wanted = difference(need[opened], need[first]);
-        let hand = self.hand;
-        let found = hand.ends(at, slope, wanted, high);
-        let left = site(found.left, start);
-        let right = site(found.right, start);
-        Best {
-            left: left,
-            right: right,
-            sure: found.right <= hand.cap,
+            carried: carried,
         }
     }
 
     // Nothing in hand, all cells opened.
     pub fn finished(self, count: usize) -> bool
-        ensures { λ r. ⌜ r ≡ not (self .held) && leb count (self .opened) ⌝ }
+        ensures { λ r. ⌜ r ≡ (eqb (self .first) (self .opened) && leb count (self .opened)) ⌝ }
     {
-        !self.held && count <= self.opened
+        self.first == self.opened && count <= self.opened
     }
 
-    // A bench that was loaded: the changes of each of its clumps, which lie cell by cell, are put in order again. That carries nothing.
+    // Sure of its changes: where what is wanted is not reached up to the cap, and the cap is not yet the limit, they are put into a heap again.
+    fn sure(
+        self,
+        want: u32,
+        width: u32,
+        starts: &[u32],
+        bounds: &[u16],
+        at: &[i32],
+        slope: &[i64],
+        keys: &mut [u32],
+    ) -> Self
+        requires { ⌜ Makes (self .first) (self .opened) width (now starts) (now bounds) (now at) (now slope) (now keys) ⌝ }
+        ensures { λ r. ⌜ Sure self want width (now (starts .entry)) (now (bounds .entry)) (now (at .entry)) (now (slope .entry)) (now (keys .entry)) (now (keys .exit)) r ⌝ }
+    {
+        let opened = self.opened;
+        if want <= self.hand.sum {
+            return self;
+        }
+        if width - starts[opened] <= self.hand.cap {
+            return self;
+        }
+        self.filled(width, starts, bounds, at, slope, keys)
+    }
+
+    // What it does next. It joins where the end of the last settled clump exceeds r, and settles otherwise, at the larger of that end and l: a walk down
+    // its heap tells, from the cap to where that clump stands.
+    fn found(
+        self,
+        want: u32,
+        start: u32,
+        last: u32,
+        limit: u32,
+        bounds: &[u16],
+        keys: &mut [u32],
+    ) -> Found
+        requires { ⌜ Seeks self want start last (now bounds) (now keys) ⌝ }
+        ensures { λ _. ⌜ Outside (now (keys .entry)) (now (keys .exit)) (getD (now (bounds .entry)) (self .first) 0) (getD (now (bounds .entry)) (self .first) 0 + self .hand .size) ⌝ }
+        ensures { λ r. ⌜ FindsAs self want start last limit (getD (now (bounds .entry)) (self .first) 0) (now (keys .entry)) (now (keys .exit)) r ⌝ }
+    {
+        let hand = self.hand;
+        if limit < last {
+            return Found {
+                hand: hand,
+                joins: true,
+            };
+        }
+        if hand.sum < want {
+            return Found {
+                hand: hand,
+                joins: false,
+            };
+        }
+        let first = self.first;
+        let base = wide(bounds[first]);
+        let stop = hand.descend(keys, base, want, last);
+        let kept = stop.kept;
+        Found {
+            hand: kept,
+            joins: exceeds(last + start, stop.short, kept.sum, want),
+        }
+    }
+    // The same work with that kept of the changes in hand.
+    fn holding(self, hand: Kept) -> Self
+        ensures { λ r. ⌜ r ≡ withHand self hand ⌝ }
+    {
+        let carried = self.carried;
+        Bench {
+            opened: self.opened,
+            first: self.first,
+            settled: self.settled,
+            hand: hand,
+            carried: carried,
+        }
+    }
+
+    // One step. Nothing in hand: open. In hand: join or settle, as its changes tell.
+    pub fn step(
+        self,
+        width: u32,
+        starts: &[u32],
+        bounds: &[u16],
+        needs: &[u32],
+        at: &[i32],
+        slope: &[i64],
+        cells: &mut [u16],
+        edges: &mut [u32],
+        sizes: &mut [u16],
+        sums: &mut [u32],
+        keys: &mut [u32],
+    ) -> Self
+        requires { ⌜ Unfinished width (layoutOf (now starts) (now bounds) (now needs) (now at) (now slope)) self (listsOf (now cells) (now edges) (now sizes) (now sums) (now keys)) ⌝ }
+        ensures { λ r. ⌜ StepsAs width (layoutOf (now (starts .entry)) (now (bounds .entry)) (now (needs .entry)) (now (at .entry)) (now (slope .entry))) self (listsOf (now (cells .entry)) (now (edges .entry)) (now (sizes .entry)) (now (sums .entry)) (now (keys .entry))) r (listsOf (now (cells .exit)) (now (edges .exit)) (now (sizes .exit)) (now (sums .exit)) (now (keys .exit))) ⌝ }
+    {
+        if self.first == self.opened {
+            return self.open(width, starts, bounds, at, slope, keys);
+        }
+        let opened = self.opened;
+        let first = self.first;
+        let start = starts[first];
+        let limit = width - starts[opened];
+        let last = self.stand(starts, cells, edges);
+        let want = needs[opened] - needs[first];
+        let sure = self.sure(want, width, starts, bounds, at, slope, keys);
+        let found = sure.found(want, start, last, limit, bounds, keys);
+        let next = sure.holding(found.hand);
+        if found.joins {
+            return next.join(starts, bounds, at, slope, cells, edges, sizes, sums, keys);
+        }
+        next.settle(starts, cells, edges, sizes, sums)
+    }
+
+    // A bench that was loaded: the changes of each of its clumps are put into a heap again. That carries nothing.
     fn remake(
         self,
         width: u32,
-        places: &[u32; ENDS],
-        held: &[usize; ENDS],
-        at: &mut [i32; MOST_CHANGES],
-        slope: &mut [i64; MOST_CHANGES],
-        cells: &[u16; MOST_CELLS],
-        edges: &[u32; MOST_CELLS],
-        froms: &mut [usize; MOST_CELLS],
-        tos: &mut [usize; MOST_CELLS],
-        sums: &mut [i64; MOST_CELLS],
+        starts: &[u32],
+        bounds: &[u16],
+        at: &[i32],
+        slope: &[i64],
+        cells: &[u16],
+        edges: &[u32],
+        sizes: &mut [u16],
+        sums: &mut [u32],
+        keys: &mut [u32],
     ) -> Self
-        requires { ⌜ Saved width (now places) (now held) self (now cells) (now edges) (listsOf (now froms) (now tos) (now sums)) (now at) (now slope) ⌝ }
-        ensures { λ r. ⌜ ((R : Row) (b : Meant) (needs : List ℤ) → width ≡ R .width → Laid R (now (places .entry)) (now (held .entry)) needs → Numbers R self (now (cells .entry)) (now (edges .entry)) b → Apiece R (now (at .entry)) (now (slope .entry)) → Stands R r (now (cells .entry)) (now (edges .entry)) (listsOf (now (froms .exit)) (now (tos .exit)) (now (sums .exit))) (now (at .exit)) (now (slope .exit)) b) ⌝ }
+        requires { ⌜ ((needs : List ℕ) × ((count : ℕ) × Resumes count width (layoutOf (now starts) (now bounds) needs (now at) (now slope)) self (listsOf (now cells) (now edges) (now sizes) (now sums) (now keys)))) ⌝ }
+        ensures { λ r. ⌜ ((needs : List ℕ) → RemadeAs width (layoutOf (now (starts .entry)) (now (bounds .entry)) needs (now (at .entry)) (now (slope .entry))) self (listsOf (now (cells .entry)) (now (edges .entry)) (now (sizes .entry)) (now (sums .entry)) (now (keys .entry))) r (listsOf (now (cells .entry)) (now (edges .entry)) (now (sizes .exit)) (now (sums .exit)) (now (keys .exit)))) ⌝ }
     {
         let settled = self.settled;
         let mut first = 0;
         let mut k = 0;
         while k < settled {
-            let end = first + wide(cells[k]);
-            let start = places[first];
-            let low = counted_from(0, start);
-            let cap = counted_from(edges[k], start);
-            let part = arrange(at, slope, held[first], held[end], low, cap);
-            froms[k] = part.from;
-            tos[k] = part.to;
-            let sum = part.sum;
-            sums[k] = sum;
-            first = end;
+            let next = first + wide(cells[k]);
+            let base = wide(bounds[first]);
+            let end = wide(bounds[next]);
+            let kept = made(keys, at, slope, base, end, edges[k] - starts[first]);
+            let size = kept.size;
+            sizes[k] = size as u16;
+            sums[k] = kept.sum;
+            first = next;
             k += 1;
         }
-        if !self.held {
+        if self.first == self.opened {
             return self;
         }
-        self.arranged(width, places, held, at, slope)
-    }
-
-    // One step. In hand: join where the end of the last settled clump exceeds r, otherwise settle at the larger of that end and l. Nothing in hand: open.
-    // Where r is not sure, the clump's changes are put in order again, up to its right limit.
-    pub fn step(
-        self,
-        width: u32,
-        places: &[u32; ENDS],
-        held: &[usize; ENDS],
-        need: &[i64; ENDS],
-        at: &mut [i32; MOST_CHANGES],
-        slope: &mut [i64; MOST_CHANGES],
-        cells: &mut [u16; MOST_CELLS],
-        edges: &mut [u32; MOST_CELLS],
-        froms: &mut [usize; MOST_CELLS],
-        tos: &mut [usize; MOST_CELLS],
-        sums: &mut [i64; MOST_CELLS],
-    ) -> Self
-        requires { ⌜ Unfinished width (now places) (now held) (now need) self (now cells) (now edges) (listsOf (now froms) (now tos) (now sums)) (now at) (now slope) ⌝ }
-        ensures { λ r. ⌜ ((R : Row) (b : Meant) → width ≡ R .width → Laid R (now (places .entry)) (now (held .entry)) (now (need .entry)) → Stands R self (now (cells .entry)) (now (edges .entry)) (listsOf (now (froms .entry)) (now (tos .entry)) (now (sums .entry))) (now (at .entry)) (now (slope .entry)) b → finished R b ≡ false → Stands R r (now (cells .exit)) (now (edges .exit)) (listsOf (now (froms .exit)) (now (tos .exit)) (now (sums .exit))) (now (at .exit)) (now (slope .exit)) (step R b)) ⌝ }
-    {
-        if !self.held {
-            return self.open(width, places, held, at, slope);
-        }
-        let found = self.best(width, places, need, at, slope);
-        if found.sure {
-            return self.moved(
-                found,
-                places,
-                held,
-                at,
-                slope,
-                cells,
-                edges,
-                froms,
-                tos,
-                sums,
-            );
-        }
-        let again = self.arranged(width, places, held, at, slope);
-        let best = again.best(width, places, need, at, slope);
-        again.moved(
-            best,
-            places,
-            held,
-            at,
-            slope,
-            cells,
-            edges,
-            froms,
-            tos,
-            sums,
-        )
-    }
-
-    // With its best interval found, the clump in hand is joined or settled.
-    fn moved(
-        self,
-        best: Best,
-        places: &[u32; ENDS],
-        held: &[usize; ENDS],
-        at: &mut [i32; MOST_CHANGES],
-        slope: &mut [i64; MOST_CHANGES],
-        cells: &mut [u16; MOST_CELLS],
-        edges: &mut [u32; MOST_CELLS],
-        froms: &mut [usize; MOST_CELLS],
-        tos: &mut [usize; MOST_CELLS],
-        sums: &mut [i64; MOST_CELLS],
-    ) -> Self
-        requires { ⌜ Found (now places) (now held) self (now cells) (now edges) (listsOf (now froms) (now tos) (now sums)) (now at) (now slope) (best .left .0) (best .right .0) ⌝ }
-        ensures { λ r. ⌜ ((R : Row) (b : Meant) (needs : List ℤ) → Laid R (now (places .entry)) (now (held .entry)) needs → Stands R self (now (cells .entry)) (now (edges .entry)) (listsOf (now (froms .entry)) (now (tos .entry)) (now (sums .entry))) (now (at .entry)) (now (slope .entry)) b → FoundIn R b (best .left .0) (best .right .0) → Stands R r (now (cells .exit)) (now (edges .exit)) (listsOf (now (froms .exit)) (now (tos .exit)) (now (sums .exit))) (now (at .exit)) (now (slope .exit)) (step R b)) ⌝ }
-    {
-        let end = self.end(places, cells, edges);
-        if best.right.0 < end.0 {
-            return self.join(places, held, at, slope, cells, edges, froms, tos, sums);
-        }
-        let edge = larger(end, best.left);
-        self.settle(edge, cells, edges, froms, tos, sums)
+        self.filled(width, starts, bounds, at, slope, keys)
     }
 }
 
@@ -432,35 +383,35 @@ fn run(
     budget: u32,
     width: u32,
     count: usize,
-    places: &[u32; ENDS],
-    held: &[usize; ENDS],
-    need: &[i64; ENDS],
-    at: &mut [i32; MOST_CHANGES],
-    slope: &mut [i64; MOST_CHANGES],
-    cells: &mut [u16; MOST_CELLS],
-    edges: &mut [u32; MOST_CELLS],
-    froms: &mut [usize; MOST_CELLS],
-    tos: &mut [usize; MOST_CELLS],
-    sums: &mut [i64; MOST_CELLS],
+    starts: &[u32],
+    bounds: &[u16],
+    needs: &[u32],
+    at: &[i32],
+    slope: &[i64],
+    cells: &mut [u16],
+    edges: &mut [u32],
+    sizes: &mut [u16],
+    sums: &mut [u32],
+    keys: &mut [u32],
 ) -> Ran
-    requires { ⌜ Counted count width (now places) (now held) (now need) from (now cells) (now edges) (listsOf (now froms) (now tos) (now sums)) (now at) (now slope) ⌝ }
-    ensures { λ r. ⌜ ((R : Row) (b : Meant) → width ≡ R .width → count ≡ length (R .widths) → Laid R (now (places .entry)) (now (held .entry)) (now (need .entry)) → Stands R from (now (cells .entry)) (now (edges .entry)) (listsOf (now (froms .entry)) (now (tos .entry)) (now (sums .entry))) (now (at .entry)) (now (slope .entry)) b → Stands R (r .bench) (now (cells .exit)) (now (edges .exit)) (listsOf (now (froms .exit)) (now (tos .exit)) (now (sums .exit))) (now (at .exit)) (now (slope .exit)) (run R budget b) × (r .steps .0 ≡ stepsTaken R budget b)) ⌝ }
+    requires { ⌜ Counted count width (layoutOf (now starts) (now bounds) (now needs) (now at) (now slope)) from (listsOf (now cells) (now edges) (now sizes) (now sums) (now keys)) ⌝ }
+    ensures { λ r. ⌜ RunsAs budget count width (layoutOf (now (starts .entry)) (now (bounds .entry)) (now (needs .entry)) (now (at .entry)) (now (slope .entry))) from (listsOf (now (cells .entry)) (now (edges .entry)) (now (sizes .entry)) (now (sums .entry)) (now (keys .entry))) r (listsOf (now (cells .exit)) (now (edges .exit)) (now (sizes .exit)) (now (sums .exit)) (now (keys .exit))) ⌝ }
 {
     let mut bench = from;
     let mut steps: u32 = 0;
     while steps < budget && !bench.finished(count) {
         bench = bench.step(
             width,
-            places,
-            held,
-            need,
+            starts,
+            bounds,
+            needs,
             at,
             slope,
             cells,
             edges,
-            froms,
-            tos,
+            sizes,
             sums,
+            keys,
         );
         steps += 1;
     }
@@ -470,52 +421,52 @@ fn run(
     }
 }
 
-// A bench that was loaded goes on: its clumps' changes are put in order again, and at most `budget` steps are taken.
+// A bench that was loaded goes on: its clumps' changes are put into heaps again, and at most `budget` steps are taken.
 pub fn resume(
     from: Bench,
     budget: u32,
     width: u32,
     count: usize,
-    places: &[u32; ENDS],
-    held: &[usize; ENDS],
-    need: &[i64; ENDS],
-    at: &mut [i32; MOST_CHANGES],
-    slope: &mut [i64; MOST_CHANGES],
-    cells: &mut [u16; MOST_CELLS],
-    edges: &mut [u32; MOST_CELLS],
+    starts: &[u32],
+    bounds: &[u16],
+    needs: &[u32],
+    at: &[i32],
+    slope: &[i64],
+    cells: &mut [u16],
+    edges: &mut [u32],
+    sizes: &mut [u16],
+    sums: &mut [u32],
+    keys: &mut [u32],
 ) -> Ran
-    requires { ⌜ Resumes count width (now places) (now held) (now need) from (now cells) (now edges) (now at) (now slope) ⌝ }
-    ensures { λ r. ⌜ ((R : Row) (b : Meant) → width ≡ R .width → count ≡ length (R .widths) → Laid R (now (places .entry)) (now (held .entry)) (now (need .entry)) → Numbers R from (now (cells .entry)) (now (edges .entry)) b → Apiece R (now (at .entry)) (now (slope .entry)) → Numbers R (r .bench) (now (cells .exit)) (now (edges .exit)) (run R budget b) × (r .steps .0 ≡ stepsTaken R budget b)) ⌝ }
+    requires { ⌜ Resumes count width (layoutOf (now starts) (now bounds) (now needs) (now at) (now slope)) from (listsOf (now cells) (now edges) (now sizes) (now sums) (now keys)) ⌝ }
+    ensures { λ r. ⌜ ResumesAs budget count width (layoutOf (now (starts .entry)) (now (bounds .entry)) (now (needs .entry)) (now (at .entry)) (now (slope .entry))) from (listsOf (now (cells .entry)) (now (edges .entry)) (now (sizes .entry)) (now (sums .entry)) (now (keys .entry))) r (now (cells .exit)) (now (edges .exit)) ⌝ }
 {
-    let mut froms = [0usize; MOST_CELLS];
-    let mut tos = [0usize; MOST_CELLS];
-    let mut sums = [0i64; MOST_CELLS];
     let made = from.remake(
         width,
-        places,
-        held,
+        starts,
+        bounds,
         at,
         slope,
         cells,
         edges,
-        &mut froms,
-        &mut tos,
-        &mut sums,
+        sizes,
+        sums,
+        keys,
     );
     run(
         made,
         budget,
         width,
         count,
-        places,
-        held,
-        need,
+        starts,
+        bounds,
+        needs,
         at,
         slope,
         cells,
         edges,
-        &mut froms,
-        &mut tos,
-        &mut sums,
+        sizes,
+        sums,
+        keys,
     )
 }

@@ -2,10 +2,10 @@
 -- their changes are laid out: each on cells of the row, its numbers within their ranges.
 use Prim.Native.Nat.{ℕ, _≤_, _<_}
 use mathlib.Core.Path.{_≡_}
-use mathlib.Core.List.{List, [], _∷_, _++_, map, List·Memᴰ as In}
+use mathlib.Core.List.{List, [], _∷_, _++_, map}
 use mathlib.Core.Bool.{cond}
 use lib.Dec.{eqb}
-use lib.ListN.{length, take}
+use lib.ListN.{length}
 use lib.IntN.{ℤ, pos, negℤ, _-ℤ_}
 use Rattle.numbers.specs.Signed.{above, below}
 use Rattle.rules.specs.Sizes.{widest, mostCells, mostNets, heaviest}
@@ -13,6 +13,7 @@ use Rattle.rules.specs.Row.{Row}
 use Rattle.rules.specs.Changes.{Change}
 use Rattle.nets.specs.declared.Net.{Net}
 use Rattle.nets.specs.Summary.{summary}
+use Rattle.nets.specs.NetLists.{NetLists, Room, netAt, netsTo}
 
 -- at fl less the offset on L, with minus the weight; at fr less the offset on R, with plus the weight
 abbrev pub leftKept : Net → Change
@@ -30,13 +31,9 @@ unfoldable pub keptOn : ℕ → List Net → List Change
 keptOn i [] = []
 keptOn i (n ∷ ns) = onCell (n .left) (leftKept n) i ++ (onCell (n .right) (rightKept n) i ++ keptOn i ns)
 
--- what stands where there is no net
-abbrev pub noNet : Net
-noNet = record { weight = record { 0 = 0 }; left = 0; onleft = 0; right = 0; onright = 0; fl = pos 0; fr = pos 0 }
-
 -- those of the first k nets, cell by cell
-abbrev pub keptIn : List Net → ℕ → ℕ → List Change
-keptIn net k i = keptOn i (take k net)
+abbrev pub keptIn : NetLists → ℕ → ℕ → List Change
+keptIn ls k i = keptOn i (netsTo ls k)
 
 -- not farther from site 0 than a row is wide
 abbrev pub Near : ℤ → Type 0
@@ -53,13 +50,14 @@ pub record Ranged (cells : ℕ) (n : Net) : Type 0 where
   pub light : n .weight .0 ≤ heaviest
 
 -- what the code asks of the nets of a row
-pub record Ready (net : List Net) (nets cells : ℕ) : Type 0 where
+pub record Ready (ls : NetLists) (nets cells : ℕ) : Type 0 where
   pub few-nets : nets ≤ mostNets
   pub few-cells : cells ≤ mostCells
-  pub each : (n : Net) → In n (take nets net) → Ranged cells n
+  pub room : Room ls nets
+  pub each : (k : ℕ) → k < nets → Ranged cells (netAt ls k)
 
 -- the first `nets` of them are what is kept of the row's nets
-pub record Nets (R : Row) (net : List Net) (nets cells : ℕ) : Type 0 where
+pub record Nets (R : Row) (ls : NetLists) (nets cells : ℕ) : Type 0 where
   pub cells-are : cells ≡ length (R .widths)
   pub nets-are : nets ≡ length (R .nets)
-  pub kept : take nets net ≡ map (summary (R .width)) (R .nets)
+  pub kept : netsTo ls nets ≡ map (summary (R .width)) (R .nets)

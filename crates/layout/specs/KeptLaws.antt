@@ -1,28 +1,30 @@
 -- Laws of the changes by what is kept of the nets: they are the row's, one net more adds its two, and their sums over all cells stay small.
-use Prim.Native.Nat.{ℕ, zero, suc, _+_, _-_, _*_, _≤_, _<_}
-use mathlib.Core.Path.{_≡_, refl, sym, ap, _∙_, fun-ext}
-use mathlib.Core.List.{List, [], _∷_, _++_, map, append-nil, append-assoc, List·Memᴰ as In, List·Memᴰ·head as here, List·Memᴰ·tail as there}
+use Prim.Native.Nat.{ℕ, zero, suc, _+_, _*_, _≤_, _<_}
+use mathlib.Core.Path.{_≡_, refl, sym, ap, subst, _∙_, fun-ext}
+use mathlib.Core.List.{List, [], _∷_, _++_, map, append-nil, append-assoc, List·Memᴰ as In, List·Memᴰ·head as here, List·Memᴰ·tail as there, List·Memᴰ·not-nil as not-nil, List·Memᴰ·append-cases as either-part, List·Memᴰ·eq-of-singleton as the-only}
 use mathlib.Core.Logic.{⊎-elim}
 use mathlib.Core.Bool.{Bool, true, false, cond}
+use native.Mathlib.Nat.{eq-or-lt-of-le}
 use native.Mathlib.Numerals.{add-one}
 use native.Mathlib.Omega.{arith}
 use lib.Dec.{eqb}
-use lib.ListN.{length, take, drop, getD, length-append, length-take, take-append-drop}
-use lib.Seq.{take-suc, take-take}
+use lib.ListN.{length, length-append}
 use lib.IntN.{ℤ, pos, negℤ, _-ℤ_}
 use mir.Syntax.{w32, w64}
 use mir.Val.{SFits}
 use borrow.Author.Tests.{eqb-true, ne-eqb}
 use Rattle.numbers.specs.Signed.{above, below}
 use Rattle.numbers.specs.SignedLaws.{one-part, neg-above, neg-below, sub-parts, fits32, fits64, sfits-parts}
+use Rattle.numbers.specs.Sums.{sumTo}
 use Rattle.rules.specs.Sizes.{widest, heaviest}
 use Rattle.rules.specs.Row.{Row, Net as Listed}
 use Rattle.rules.specs.Changes.{Change, changesOn, leftChange, rightChange}
 use Rattle.slopes.specs.Tally.{tallyOf, tally-append, length-tally}
 use Rattle.slopes.specs.Sizes.{need, needOf}
-use Rattle.slopes.specs.Joined.{sumTo, changesOf}
+use Rattle.slopes.specs.Joined.{changesOf}
 use Rattle.nets.specs.declared.Net.{Net}
 use Rattle.nets.specs.Summary.{summary}
+use Rattle.nets.specs.NetLists.{NetLists, netAt, netsTo, nets-zero, nets-suc, nets-length}
 use Rattle.layout.specs.Kept.{leftKept, rightKept, onCell, keptOn, keptIn, Near, Nets}
 use Rattle.layout.specs.Shared.{heldTo, needTo}
 
@@ -33,14 +35,24 @@ unfolding keptOn changesOn summary leftChange rightChange
 kept-changes W i [] = refl
 kept-changes W i (t ∷ ts) = rw (kept-changes W i ts) refl
 
-pub changes-kept : {R : Row} {net : List Net} {nets cells : ℕ} → Nets R net nets cells → keptIn net nets ≡ changesOf R
-changes-kept {R} {net} {nets} {cells} n = fun-ext (λ i. ap (keptOn i) (n .kept) ∙ kept-changes (R .width) i (R .nets))
+pub changes-kept : {R : Row} {ls : NetLists} {nets cells : ℕ} → Nets R ls nets cells → keptIn ls nets ≡ changesOf R
+changes-kept {R} {ls} {nets} {cells} n = fun-ext (λ i. ap (keptOn i) (n .kept) ∙ kept-changes (R .width) i (R .nets))
 
--- ---- one net more
+-- ---- the first nets
 
-pub kept-none : (net : List Net) (i : ℕ) → keptIn net 0 i ≡ []
+-- what holds of each of them, by its place
+each-net : (P : Net → Type 0) (ls : NetLists) (k : ℕ) → ((j : ℕ) → j < k → P (netAt ls j)) → (n : Net) → In n (netsTo ls k) → P n
+unfolding netsTo
+each-net P ls zero h n m = absurd (not-nil m)
+each-net P ls (suc k) h n m =
+    ⊎-elim
+    (λ (q : In n (netsTo ls k)). each-net P ls k (λ j l. h j (omega arith)) n q)
+    (λ (q : In n (netAt ls k ∷ [])). subst P (sym (the-only q)) (h k (omega arith)))
+    (either-part (netsTo ls k) m)
+
+pub kept-none : (ls : NetLists) (i : ℕ) → keptIn ls 0 i ≡ []
 unfolding keptOn
-kept-none net i = refl
+kept-none ls i = rw (nets-zero ls) refl
 
 kept-append : (i : ℕ) (ms ns : List Net) → keptOn i (ms ++ ns) ≡ keptOn i ms ++ keptOn i ns
 unfolding keptOn
@@ -51,22 +63,25 @@ kept-one : (i : ℕ) (n : Net) → keptOn i (n ∷ []) ≡ onCell (n .left) (lef
 unfolding keptOn
 kept-one i n = rw append-nil refl
 
-pub kept-more : (net : List Net) (k : ℕ) (d : Net) → k < length net
-    → keptIn net (k + 1)
-    ≡ (λ i. (keptIn net k i ++ onCell (getD net k d .left) (leftKept (getD net k d)) i) ++ onCell (getD net k d .right) (rightKept (getD net k d)) i)
-kept-more net k d h = fun-ext (λ i.
-    rw (add-one k, take-suc net k d h, kept-append i (take k net) (getD net k d ∷ []), kept-one i (getD net k d))
-    (sym (append-assoc (keptIn net k i) (onCell (getD net k d .left) (leftKept (getD net k d)) i) (onCell (getD net k d .right) (rightKept (getD net k d)) i))))
-
-pub first-nets : (net : List Net) (k nets : ℕ) → k ≤ nets → take nets net ≡ take k net ++ drop k (take nets net)
-first-nets net k nets h =
-    sym (take-append-drop k (take nets net)) ∙ ap (λ (l : List Net). l ++ drop k (take nets net)) (take-take k nets net h)
+-- one net more
+pub kept-more : (ls : NetLists) (k : ℕ)
+    → keptIn ls (k + 1)
+    ≡ (λ i. (keptIn ls k i ++ onCell (netAt ls k .left) (leftKept (netAt ls k)) i) ++ onCell (netAt ls k .right) (rightKept (netAt ls k)) i)
+kept-more ls k = fun-ext (λ i.
+    rw (add-one k, nets-suc ls k, kept-append i (netsTo ls k) (netAt ls k ∷ []), kept-one i (netAt ls k))
+    (sym (append-assoc (keptIn ls k i) (onCell (netAt ls k .left) (leftKept (netAt ls k)) i)
+    (onCell (netAt ls k .right) (rightKept (netAt ls k)) i))))
 
 -- so the first k nets give a cell at most what all of them do
-pub kept-grows : (net : List Net) (k nets i : ℕ) → k ≤ nets → length (keptIn net k i) ≤ length (keptIn net nets i)
-kept-grows net k nets i h =
-    let rest = drop k (take nets net) in
-    rw (first-nets net k nets h, kept-append i (take k net) rest, length-append (keptOn i (take k net)) (keptOn i rest)) (omega arith)
+pub kept-grows : (ls : NetLists) (k nets i : ℕ) → k ≤ nets → length (keptIn ls k i) ≤ length (keptIn ls nets i)
+kept-grows ls k zero i h = let e : k ≡ 0 = omega arith in rw e (omega arith)
+kept-grows ls k (suc n) i h =
+    ⊎-elim
+    (λ (q : k ≡ suc n). rw q (omega arith))
+    (λ (q : k < suc n).
+    rw (nets-suc ls n, kept-append i (netsTo ls n) (netAt ls n ∷ []), length-append (keptIn ls n i) (keptOn i (netAt ls n ∷ [])))
+    (omega (arith, kept-grows ls k n i (omega arith))))
+    (eq-or-lt-of-le h)
 
 -- ---- sums over all cells
 
@@ -124,20 +139,22 @@ module _ (f : Change → ℕ) where
       )
 
 -- all cells together hold two changes a net
-pub held-few : (net : List Net) (k m : ℕ) → heldTo (keptIn net k) m ≤ 2 * k
-held-few net k m =
-    let e : heldTo (keptIn net k) m ≡ sumTo (λ j. tallyOf (λ _. 1) (keptIn net k j)) m =
-    ap (λ (g : ℕ → ℕ). sumTo g m) (fun-ext (λ j. length-tally (keptIn net k j))) in
-    omega (arith, e, sum-most (λ _. 1) 2 (take k net) (λ n q. omega arith) m, length-take k net)
+pub held-few : (ls : NetLists) (k m : ℕ) → heldTo (keptIn ls k) m ≤ 2 * k
+held-few ls k m =
+    let e : heldTo (keptIn ls k) m ≡ sumTo (λ j. tallyOf (λ _. 1) (keptIn ls k j)) m =
+    ap (λ (g : ℕ → ℕ). sumTo g m) (fun-ext (λ j. length-tally (keptIn ls k j))) in
+    omega (arith, e, sum-most (λ _. 1) 2 (netsTo ls k) (λ n q. omega arith) m, nets-length ls k)
 
 -- and the negative ones weigh at most what the nets do
-pub need-few : (net : List Net) (k m : ℕ) → ((n : Net) → In n (take k net) → n .weight .0 ≤ heaviest) → needTo (keptIn net k) m ≤ k * heaviest
+pub need-few : (ls : NetLists) (k m : ℕ) → ((j : ℕ) → j < k → netAt ls j .weight .0 ≤ heaviest) → needTo (keptIn ls k) m ≤ k * heaviest
 unfolding need
-need-few net k m h =
+need-few ls k m h =
     omega (
       arith,
-      sum-most needOf heaviest (take k net) (λ n q. omega (arith, h n q, neg-below (pos (n .weight .0)))) m,
-      length-take k net,
+      sum-most needOf heaviest (netsTo ls k)
+          (each-net (λ n. needOf (leftKept n) + needOf (rightKept n) ≤ heaviest) ls k
+          (λ j l. omega (arith, h j l, neg-below (pos (netAt ls j .weight .0))))) m,
+      nets-length ls k,
     )
 
 -- ---- coordinates that a row's numbers make

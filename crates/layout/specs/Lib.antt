@@ -6,5 +6,4 @@ pub mod KeptLaws
 pub mod SharedLaws
 pub mod LaidLaws
 pub mod NetLaws
-pub mod PartSums
 pub mod RowLaws

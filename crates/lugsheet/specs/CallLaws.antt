@@ -11,11 +11,14 @@ use Rattle.rules.specs.Row.{Row}
 use Rattle.rules.specs.Reading.{Read, taken, refused, readRow}
 use Rattle.rules.specs.Length.{overlap, netlength}
 use Rattle.rules.specs.Sizes.{benchSize}
-use Rattle.rules.specs.Steps.{finished}
 use Rattle.rules.specs.Bench.{benchOf, inForm}
-use Rattle.rules.specs.Calls.{Outcome, withRow, refuse, given, checkCall, measureCall, measured, sitesFrom, sliceCall, sliced, placementCall, placed, positions}
+use Rattle.rules.specs.Calls.{Outcome, withRow, refuse, given, checkCall, measureCall, measured, sitesFrom, sliceCall, sliced, placementCall}
 use Rattle.rules.specs.declared.Refusal.{Refusal}
-use Rattle.rules.specs.declared.Refusal.the-variants.{Room, WrongBench, Unfinished, Overlap}
+use Rattle.rules.specs.declared.Refusal.the-variants.{Room, WrongBench, Overlap}
+
+-- answer and buffer by the whole outcome
+pub told-by : {answer : ℕ} {buffer : List ℕ} {o : Outcome} → o ≡ record { answer = answer; buffer = buffer } → (answer ≡ o .answer) × (buffer ≡ o .buffer)
+told-by e = (sym (ap (λ (o : Outcome). o .answer) e), sym (ap (λ (o : Outcome). o .buffer) e))
 
 -- ---- check
 
@@ -83,7 +86,7 @@ module _ (row bench : List ℕ) (budget : ℕ) (R : Row) (e : readRow row ≡ ta
     unfolding sliceCall
     slice-done f = rw (e, eq-eqb (length bench) benchSize h, f) refl
 
--- ---- placement
+-- ---- placement: the ways that end before placing
 
 pub placement-refused : (row bench placement : List ℕ) (q : Refusal) (place : ℕ) → readRow row ≡ refused q place
     → placementCall row bench placement ≡ refuse placement q place
@@ -99,18 +102,3 @@ module _ (row bench placement : List ℕ) (R : Row) (e : readRow row ≡ taken R
     pub placement-room : (length placement ≡ 4 * length (R .widths) → ⊥) → placementCall row bench placement ≡ refuse placement Room 0
     unfolding placementCall
     placement-room g = rw (e, eq-eqb (length bench) benchSize h, ne-eqb (length placement) (4 * length (R .widths)) g) refl
-
-    module _ (g : length placement ≡ 4 * length (R .widths)) where
-      pub placement-form : inForm R bench ≡ false → placementCall row bench placement ≡ refuse placement WrongBench 0
-      unfolding placementCall
-      placement-form f = rw (e, eq-eqb (length bench) benchSize h, eq-eqb (length placement) (4 * length (R .widths)) g, f) refl
-
-      module _ (f : inForm R bench ≡ true) where
-        pub placement-unfinished : finished R (benchOf R bench) ≡ false → placementCall row bench placement ≡ refuse placement Unfinished 0
-        unfolding placementCall
-        placement-unfinished d = rw (e, eq-eqb (length bench) benchSize h, eq-eqb (length placement) (4 * length (R .widths)) g, f, d) refl
-
-        pub placement-done : finished R (benchOf R bench) ≡ true
-            → placementCall row bench placement ≡ placed R (positions R (benchOf R bench))
-        unfolding placementCall
-        placement-done d = rw (e, eq-eqb (length bench) benchSize h, eq-eqb (length placement) (4 * length (R .widths)) g, f, d) refl

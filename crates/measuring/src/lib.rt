@@ -3,15 +3,13 @@
 ghost use mathlib.Core.Path.{_≡_};
 ghost use mathlib.Core.List.{List};
 ghost use Prim.Native.Nat.{ℕ, _+_, _*_, _≤_, _<_};
-ghost use lib.ListN.{length, getD, take};
-ghost use Rattle.rules.specs.Sizes.{mostCells, mostNets, widest};
+ghost use lib.ListN.{length};
+ghost use Rattle.rules.specs.Sizes.{mostCells};
 ghost use Rattle.rules.specs.Length.{overlapFrom};
 ghost use Rattle.rules.specs.Calls.{sitesFrom};
+ghost use Rattle.nets.specs.NetLists.{listsOf, netsTo};
 ghost use Rattle.nets.specs.Span.{lengthBy};
 ghost use Rattle.measuring.specs.Measures.{Widths, Measurable};
-use nets::Net;
-use rules::MOST_CELLS;
-use rules::MOST_NETS;
 
 fn wide(x: u32) -> u64
     ensures { λ r. ⌜ (r ≡ x) × (r < 4294967296) ⌝ }
@@ -20,13 +18,8 @@ fn wide(x: u32) -> u64
 }
 
 // The first cell that starts before its left neighbour's end or ends past W; the number of cells where there is none.
-pub fn first_overlap(
-    widths: &[u32; MOST_CELLS],
-    cells: usize,
-    width: u32,
-    placement: &[u8],
-) -> usize
-    requires { ⌜ (cells ≤ mostCells) × (4 * cells ≤ length (now placement)) × (length (now widths) ≡ mostCells) ⌝ }
+pub fn first_overlap(widths: &[u32], cells: usize, width: u32, placement: &[u8]) -> usize
+    requires { ⌜ (cells ≤ mostCells) × (4 * cells ≤ length (now placement)) × (cells ≤ length (now widths)) ⌝ }
     ensures { λ r. ⌜ ((ws : List ℕ) → Widths (now (widths .entry)) cells ws → r ≡ overlapFrom width 0 0 ws (sitesFrom (now (placement .entry)) 0 cells)) ⌝ }
 {
     let limit = wide(width);
@@ -48,14 +41,21 @@ pub fn first_overlap(
 }
 
 // The netlength: the sum of weight times span.
-pub fn netlength(net: [Net; MOST_NETS], nets: usize, placement: &[u8]) -> u64
-    requires { ⌜ ((ws : List ℕ) × Measurable net nets ws (now placement)) ⌝ }
-    ensures { λ r. ⌜ ((ws : List ℕ) → Measurable net nets ws (now (placement .entry)) → r ≡ lengthBy (sitesFrom (now (placement .entry)) 0 (length ws)) (take nets net)) ⌝ }
+pub fn netlength(
+    weights: &[u32],
+    ends: &[u16],
+    offsets: &[u32],
+    fixed: &[i32],
+    nets: usize,
+    placement: &[u8],
+) -> u64
+    requires { ⌜ ((ws : List ℕ) × Measurable (listsOf (now weights) (now ends) (now offsets) (now fixed)) nets ws (now placement)) ⌝ }
+    ensures { λ r. ⌜ ((ws : List ℕ) → Measurable (listsOf (now (weights .entry)) (now (ends .entry)) (now (offsets .entry)) (now (fixed .entry))) nets ws (now (placement .entry)) → r ≡ lengthBy (sitesFrom (now (placement .entry)) 0 (length ws)) (netsTo (listsOf (now (weights .entry)) (now (ends .entry)) (now (offsets .entry)) (now (fixed .entry))) nets)) ⌝ }
 {
     let mut sum: u64 = 0;
     let mut k: usize = 0;
     while k < nets {
-        let t = net[k];
+        let t = nets::net_at(weights, ends, offsets, fixed, k);
         let left = t.left as usize;
         let right = t.right as usize;
         let p = numbers::u32_at(placement, 4 * left);

@@ -2,7 +2,7 @@
 // them, its leftmost and rightmost fixed pins, and its weight (document 01, "Slope changes"). Its span is measured by these alone.
 ghost use mathlib.Core.Path.{_≡_};
 ghost use mathlib.Core.List.{[]};
-ghost use Prim.Native.Nat.{ℕ, _+_, _*_, _≤_};
+ghost use Prim.Native.Nat.{ℕ, _+_, _*_, _^_, _≤_, _<_};
 ghost use lib.IntN.{pos, _-ℤ_};
 ghost use mir.Syntax.{w32};
 ghost use mir.Val.{SFits};
@@ -12,6 +12,7 @@ ghost use Rattle.rules.specs.Row.{Net as Listed, fixed, on};
 ghost use Rattle.rules.specs.Length.{smaller, larger};
 ghost use Rattle.nets.specs.Summary.{drafted, withPinOf};
 ghost use Rattle.nets.specs.Turns.{leftBy, rightBy, bothBy, fixedBy, anchorBy};
+ghost use Rattle.nets.specs.NetLists.{Room, listsOf, netAt, withNet};
 ghost use Rattle.nets.specs.Span.{lowAt, highAt, spanAt, Near};
 use rules::Weight;
 
@@ -203,4 +204,50 @@ impl Draft {
             pinned: true,
         }
     }
+}
+
+// ---- the nets of a row, in four lent lists
+
+// The k-th net.
+pub fn net_at(weights: &[u32], ends: &[u16], offsets: &[u32], fixed: &[i32], k: usize) -> Net
+    requires { ⌜ (k < 2 ^ 32) × Room (listsOf (now weights) (now ends) (now offsets) (now fixed)) (k + 1) ⌝ }
+    ensures { λ r. ⌜ r ≡ netAt (listsOf (now (weights .entry)) (now (ends .entry)) (now (offsets .entry)) (now (fixed .entry))) k ⌝ }
+{
+    let left = 2 * k;
+    let right = left + 1;
+    Net {
+        weight: Weight(weights[k]),
+        left: ends[left],
+        right: ends[right],
+        onleft: offsets[left],
+        onright: offsets[right],
+        fl: fixed[left],
+        fr: fixed[right],
+    }
+}
+
+// A net put in the k-th place.
+pub fn put_net(
+    net: Net,
+    weights: &mut [u32],
+    ends: &mut [u16],
+    offsets: &mut [u32],
+    fixed: &mut [i32],
+    k: usize,
+)
+    requires { ⌜ (k < 2 ^ 32) × Room (listsOf (now weights) (now ends) (now offsets) (now fixed)) (k + 1) ⌝ }
+    ensures { λ _. ⌜ listsOf (now (weights .exit)) (now (ends .exit)) (now (offsets .exit)) (now (fixed .exit)) ≡ withNet (listsOf (now (weights .entry)) (now (ends .entry)) (now (offsets .entry)) (now (fixed .entry))) k net ⌝ }
+{
+    let left = 2 * k;
+    let right = left + 1;
+    let weight = net.weight;
+    weights[k] = weight.0;
+    ends[left] = net.left;
+    ends[right] = net.right;
+    offsets[left] = net.onleft;
+    offsets[right] = net.onright;
+    let fl = net.fl;
+    let fr = net.fr;
+    fixed[left] = fl;
+    fixed[right] = fr;
 }

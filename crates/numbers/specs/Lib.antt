@@ -6,3 +6,4 @@ pub mod Signed
 pub mod SignedLaws
 pub mod Log
 pub mod LogLaws
+pub mod Sums

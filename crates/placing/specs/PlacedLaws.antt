@@ -5,7 +5,7 @@ use mathlib.Core.Bool.{Bool, true, false, not, _&&_}
 use mathlib.Core.List.{List, [], _∷_}
 use Prim.Native.Nat.{ℕ, suc, _+_, _*_, _≤_, _<_}
 use native.Mathlib.Omega.{arith}
-use lib.ListN.{length, getD, take}
+use lib.ListN.{length, getD}
 use lib.Dec.{leb}
 use Rattle.rules.specs.Sizes.{widest}
 use Rattle.rules.specs.Row.{Row}
@@ -15,6 +15,7 @@ use Rattle.rules.specs.Bench.{benchOf, inForm}
 use Rattle.rules.specs.Calls.{positions, siteBytes, sitesFrom}
 use Rattle.nets.specs.Apart.{ends-within}
 use Rattle.nets.specs.Span.{lengthBy}
+use Rattle.nets.specs.NetLists.{NetLists, netsTo}
 use Rattle.reading.specs.declared.Sheet.{Sheet}
 use Rattle.reading.specs.Reads.{Holds}
 use Rattle.reading.specs.SoundLaws.{every-at}
@@ -47,15 +48,18 @@ legal-count W from (w ∷ ws) (p ∷ ps) l = ap suc (legal-count W (p + w) ws ps
 
 -- ---- the sheet, and the bench that was loaded for it
 
-module _ (h : Sheet) (R : Row) (held : Holds h R) where
-  pub held-widths : (i : ℕ) → i < h .cells → getD (h .widths) i 0 ≤ widest
-  held-widths i l = rw (held .widths i) (every-at WidthFits (R .widths) i 0 (held .sound .widths) (omega (arith, held .cells)) .1)
+module _ (h : Sheet) (widths : List ℕ) (ls : NetLists) (R : Row) (held : Holds h widths ls R) where
+  same-width : (i : ℕ) → i < h .cells → getD widths i 0 ≡ getD (R .widths) i 0
+  same-width i l = held .widths-are i (omega (arith, held .cells))
 
-  pub held-told : (places : List ℕ) → Places (h .widths) (h .cells) places → Told R (h .width) (h .cells) places
-  held-told places p =
-      record { wide = held .width; many = held .cells; sums = places-of-row {xs = h .widths} {ys = R .widths} (λ i _. held .widths i) p .sums }
+  pub held-widths : (i : ℕ) → i < h .cells → getD widths i 0 ≤ widest
+  held-widths i l = rw (same-width i l) (every-at WidthFits (R .widths) i 0 (held .sound .widths) (omega (arith, held .cells)) .1)
 
-  module _ (s : List ℕ) (saved : Saved) (loaded : Loaded R s saved) (form : inForm R s ≡ true) where
+  pub held-told : (starts : List ℕ) → Places widths (h .cells) starts → Told R (h .width) (h .cells) starts
+  held-told starts p =
+      record { wide = held .width; many = held .cells; sums = places-of-row {xs = widths} {ys = R .widths} same-width p .sums }
+
+  module _ (s counts edges : List ℕ) (saved : Saved) (loaded : Loaded R s counts edges saved) (form : inForm R s ≡ true) where
     -- the test for finished
     pub finished-told : (not (saved .held) && leb (h .cells) (saved .opened)) ≡ finished R (benchOf R s)
     unfolding finished finishedBy
@@ -67,22 +71,28 @@ module _ (h : Sheet) (R : Row) (held : Holds h R) where
         (λ e. rw e (sym (ap (λ (b : Bench). finished R b) (bench-without R s e))))
         (λ e. rw e (sym (ap (λ (b : Bench). finished R b) (bench-with R s e (omega (arith, f .hand-clump)))))))
 
-    pub ready : (placement : List ℕ) → length placement ≡ 4 * length (R .widths) → finished R (benchOf R s) ≡ true → Ready R s saved (h .widths) placement
-    ready placement room ends =
+    pub ready :
+        (placement : List ℕ) → length placement ≡ 4 * h .cells → h .cells ≤ length counts → h .cells ≤ length edges → finished R (benchOf R s) ≡ true →
+        Ready R s (saved .clumps) counts edges widths placement
+    ready placement room counts-long edges-long ends =
         record {
           form = form;
           ends = ends;
-          tells = loaded .tells form;
-          widths = held .widths;
+          clumps-are = loaded .tells form .clumps;
+          counts-are = loaded .tells form .cells-are;
+          edges-are = loaded .tells form .edges-are;
+          counts-long = omega (arith, held .cells);
+          edges-long = omega (arith, held .cells);
+          widths = held .widths-are;
           long = held .room-cells;
           few = held .sound .few-cells;
           near = held .sound .wide;
-          room = room;
+          room = omega (arith, held .cells);
         }
 
 -- ---- what stands in the placement then
 
-module _ (h : Sheet) (R : Row) (held : Holds h R) (s : List ℕ) (form : inForm R s ≡ true) (ends : finished R (benchOf R s) ≡ true) where
+module _ (h : Sheet) (widths : List ℕ) (ls : NetLists) (R : Row) (held : Holds h widths ls R) (s : List ℕ) (form : inForm R s ≡ true) (ends : finished R (benchOf R s) ≡ true) where
   legal-positions : legalFrom (R .width) 0 (R .widths) (positions R (benchOf R s)) ≡ true
   unfolding legal
   legal-positions = finished-legal R s form ends
@@ -107,11 +117,11 @@ module _ (h : Sheet) (R : Row) (held : Holds h R) (s : List ℕ) (form : inForm 
     after-legal : legal R (sitesFrom after 0 (length (R .widths))) ≡ true
     after-legal = rw after-sites (finished-legal R s form ends)
 
-    pub after-measurable : Measurable (h .net) (h .nets) (R .widths) after
-    after-measurable = measurable h R held after after-length after-legal
+    pub after-measurable : Measurable ls (h .nets) (R .widths) after
+    after-measurable = measurable h widths ls R held after after-length after-legal
 
-    pub after-measured : lengthBy (sitesFrom after 0 (length (R .widths))) (take (h .nets) (h .net)) ≡ netlength R (positions R (benchOf R s))
-    after-measured = measured-length h R held after after-length after-legal ∙ ap (netlength R) after-sites
+    pub after-measured : lengthBy (sitesFrom after 0 (length (R .widths))) (netsTo ls (h .nets)) ≡ netlength R (positions R (benchOf R s))
+    after-measured = measured-length h widths ls R held after after-length after-legal ∙ ap (netlength R) after-sites
 
 -- ---- the three ways to answer
 

@@ -137,14 +137,14 @@ module _ (R : Row) (s : List ℕ) (form : inForm R s ≡ true) (ends : finished 
       ))
 
   -- with the widths of the row at the front of a longer list
-  module _ (ws : List ℕ) (same : (i : ℕ) → getD ws i 0 ≡ getD (R .widths) i 0) (long : length (R .widths) ≤ length ws) where
+  module _ (ws : List ℕ) (same : (i : ℕ) → i < length (R .widths) → getD ws i 0 ≡ getD (R .widths) i 0) (long : length (R .widths) ≤ length ws) where
     widths-alike : (a n : ℕ) → a + n ≤ length (R .widths) → take n (drop a ws) ≡ take n (drop a (R .widths))
     widths-alike a n h =
         ext-getD 0 (take n (drop a ws)) (take n (drop a (R .widths)))
         (omega (arith, length-take n (drop a ws), length-take n (drop a (R .widths)), length-drop a ws, length-drop a (R .widths)))
         (λ i l.
         let g : i < n = omega (arith, length-take n (drop a ws)) in
-        getD-take n (drop a ws) i 0 g ∙ getD-drop a ws i 0 ∙ same (a + i)
+        getD-take n (drop a ws) i 0 g ∙ getD-drop a ws i 0 ∙ same (a + i) (omega arith)
         ∙ sym (getD-take n (drop a (R .widths)) i 0 g ∙ getD-drop a (R .widths) i 0))
 
     packed-alike : (x a n : ℕ) → a + n ≤ length (R .widths) → packed x n (drop a ws) ≡ packed x n (drop a (R .widths))

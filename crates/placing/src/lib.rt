@@ -3,21 +3,18 @@
 ghost use mathlib.Core.Path.{_≡_};
 ghost use mathlib.Core.Bool.{not, _&&_};
 ghost use mathlib.Core.List.{List};
-ghost use Prim.Native.Nat.{ℕ, _-_, _*_};
+ghost use Prim.Native.Nat.{ℕ, _+_, _-_, _*_, _≤_};
 ghost use lib.Dec.{leb};
 ghost use lib.ListN.{length, drop};
 ghost use Rattle.rules.specs.Sizes.{benchSize};
 ghost use Rattle.rules.specs.Row.{Row};
 ghost use Rattle.rules.specs.Bench.{benchOf};
 ghost use Rattle.rules.specs.Calls.{packed, positions, siteBytes};
+ghost use Rattle.nets.specs.NetLists.{listsOf};
 ghost use Rattle.reading.specs.Reads.{Holds, sheetOf};
 ghost use Rattle.placing.specs.Sites.{over};
 ghost use Rattle.placing.specs.Puts.{Fits, Ready};
 ghost use Rattle.placing.specs.PlacedAs.{PlacedAs};
-use benches::Saved;
-use nets::Net;
-use rules::MOST_CELLS;
-use rules::MOST_NETS;
 
 // Is the bench in form, is it finished, and if both, how long is the netlength?
 pub struct Placed {
@@ -43,7 +40,7 @@ fn is_finished(held: bool, opened: usize, cells: usize) -> bool
 }
 
 // The cells of one clump, side by side from its edge.
-fn put_clump(widths: &[u32; MOST_CELLS], placement: &mut [u8], first: usize, end: usize, edge: u32)
+fn put_clump(widths: &[u32], placement: &mut [u8], first: usize, end: usize, edge: u32)
     requires { ⌜ Fits (now widths) (now placement) first end edge ⌝ }
     ensures { λ _. ⌜ now (placement .exit) ≡ over (now (placement .entry)) first (packed edge (end - first) (drop first (now (widths .entry)))) ⌝ }
 {
@@ -57,36 +54,42 @@ fn put_clump(widths: &[u32; MOST_CELLS], placement: &mut [u8], first: usize, end
 }
 
 // The clumps of a finished bench, from left to right.
-fn put_clumps(saved: Saved, widths: &[u32; MOST_CELLS], placement: &mut [u8])
-    requires { ⌜ ((R : Row) × ((s : List ℕ) × Ready R s saved (now widths) (now placement))) ⌝ }
-    ensures { λ _. ⌜ ((R : Row) (s : List ℕ) → Ready R s saved (now (widths .entry)) (now (placement .entry)) → now (placement .exit) ≡ siteBytes (positions R (benchOf R s))) ⌝ }
+fn put_clumps(clumps: usize, counts: &[u16], edges: &[u32], widths: &[u32], placement: &mut [u8])
+    requires { ⌜ ((R : Row) × ((s : List ℕ) × Ready R s clumps (now counts) (now edges) (now widths) (now placement))) ⌝ }
+    ensures { λ _. ⌜ ((R : Row) (s : List ℕ) → Ready R s clumps (now (counts .entry)) (now (edges .entry)) (now (widths .entry)) (now (placement .entry)) → now (placement .exit) ≡ siteBytes (positions R (benchOf R s))) ⌝ }
 {
-    let clumps = saved.clumps;
     let mut first: usize = 0;
     let mut k: usize = 0;
     while k < clumps {
-        let end = first + wide(saved.cells[k]);
-        put_clump(widths, placement, first, end, saved.edges[k]);
+        let end = first + wide(counts[k]);
+        put_clump(widths, placement, first, end, edges[k]);
         first = end;
         k += 1;
     }
 }
 
-// The positions that a bench gives, for a row that was read, by what was kept of it.
+// The positions that a bench gives, for a row that was read, by what was kept of it. Three lists are lent to work in.
 pub fn place(
     width: u32,
     cells: usize,
     nets: usize,
-    widths: &[u32; MOST_CELLS],
-    net: [Net; MOST_NETS],
+    widths: &[u32],
+    weights: &[u32],
+    ends: &[u16],
+    offsets: &[u32],
+    fixed: &[i32],
     bench: &[u8],
     placement: &mut [u8],
+    starts: &mut [u32],
+    counts: &mut [u16],
+    edges: &mut [u32],
 ) -> Placed
-    requires { ⌜ (length (now bench) ≡ benchSize) × ((R : Row) × (Holds (sheetOf width cells nets (now widths) net) R × (length (now placement) ≡ 4 * length (R .widths)))) ⌝ }
-    ensures { λ r. ⌜ ((R : Row) → Holds (sheetOf width cells nets (now (widths .entry)) net) R → PlacedAs R (now (bench .entry)) (now (placement .entry)) (now (placement .exit)) r) ⌝ }
+    requires { ⌜ (length (now bench) ≡ benchSize) × (cells + 1 ≤ length (now starts)) × (cells ≤ length (now counts)) × (cells ≤ length (now edges)) × (length (now placement) ≡ 4 * cells) ⌝ }
+    requires { ⌜ ((R : Row) × Holds (sheetOf width cells nets) (now widths) (listsOf (now weights) (now ends) (now offsets) (now fixed)) R) ⌝ }
+    ensures { λ r. ⌜ ((R : Row) → Holds (sheetOf width cells nets) (now (widths .entry)) (listsOf (now (weights .entry)) (now (ends .entry)) (now (offsets .entry)) (now (fixed .entry))) R → PlacedAs R (now (bench .entry)) (now (placement .entry)) (now (placement .exit)) r) ⌝ }
 {
-    let before = layout::places(widths, cells);
-    let saved = benches::load(bench, width, cells, &before);
+    layout::lay_starts(widths, cells, starts);
+    let saved = benches::load(bench, width, cells, starts, counts, edges);
     if !saved.formed {
         return Placed {
             formed: false,
@@ -101,8 +104,8 @@ pub fn place(
             length: 0,
         };
     }
-    put_clumps(saved, widths, placement);
-    let length = measuring::netlength(net, nets, placement);
+    put_clumps(saved.clumps, counts, edges, widths, placement);
+    let length = measuring::netlength(weights, ends, offsets, fixed, nets, placement);
     Placed {
         formed: true,
         finished: true,

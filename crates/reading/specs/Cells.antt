@@ -1,12 +1,13 @@
 -- RW and the cells: what the loop over the CE records keeps, what one more makes of it, and what is handed on to the nets.
-use Prim.Native.Nat.{ℕ, _+_, _-_, _*_, _≤_, _<_}
-use mathlib.Core.Path.{_≡_, refl, ap, _∙_}
+use Prim.Native.Nat.{ℕ, _+_, _-_, _*_, _≤_, _<_, min}
+use mathlib.Core.Path.{_≡_, refl, ap, subst, _∙_}
 use mathlib.Core.List.{List, []}
 use mathlib.Core.Bool.{true}
 use native.Mathlib.Omega.{arith}
 use lib.ListN.{length, set, drop, length-drop}
 use lib.Seq.{drop-drop}
-use Rattle.rules.specs.Sizes.{widest, mostCells}
+use Rattle.numbers.specs.Bytes.{u16At}
+use Rattle.rules.specs.Sizes.{widest, mostCells, mostNets}
 use Rattle.rules.specs.Records.{Reading, recordAt, takes}
 use Rattle.rules.specs.Reading.{refused, start, after, total, readRow}
 use Rattle.rules.specs.declared.Refusal.{Refusal}
@@ -16,6 +17,7 @@ use Rattle.records.specs.declared.Progress.{Progress}
 use Rattle.records.specs.Progress.{progressAfter}
 use Rattle.records.specs.Shows.{Shows}
 use Rattle.records.specs.Parts.{AtCells}
+use Rattle.records.specs.Answers.{Says, answers-say}
 use Rattle.reading.specs.SoundLaws.{start-good, total-small}
 use Rattle.reading.specs.ReadingLaws.{record-fits, read-refused}
 use Rattle.reading.specs.Underway.{Underway, told, next-cell, next-other, refusalOf, row-or-refused, cell-or-refused}
@@ -29,17 +31,21 @@ pub record InCells (s ws : List ℕ) (sum : ℕ) (p : Progress) (t : List ℕ) (
   pub started : c .head .started ≡ true
   pub none : c .nets ≡ []
   pub tail : (k : ℕ) × ((k ≤ length s) × (t ≡ drop k s))
+  pub said : c .head .nets ≤ min (u16At s 8) mostNets
 
-pub first-cells : (s ws : List ℕ) (p : Progress) (w n m : ℕ) → Shows p ws start → length ws ≡ mostCells → recordAt start s ≡ Rw w n m
+pub first-cells : (s ws : List ℕ) (p : Progress) (w n m : ℕ) → Shows p ws start → min (u16At s 6) mostCells ≤ length ws → recordAt start s ≡ Rw w n m
     → InCells s ws 0 (progressAfter p (Rw w n m)) (drop (takes (Rw w n m)) s) (after start (Rw w n m))
 unfolding start after readRow total
 first-cells s ws p w n m shows room is =
-    let u : Underway s ws 0 p s start = record { shows = shows; good = start-good; adds = refl; room = room; same = refl } in
+    let u : Underway s ws 0 p s start = record { shows = shows; good = start-good; adds = refl; room = omega arith; same = refl } in
+    let said = subst (λ (r : Record). Says s r) is (answers-say start s) in
+    let most = told start s (Rw w n m) is in
     record {
-      underway = next-other s ws 0 p s start u (Rw w n m) is refl refl;
+      underway = next-other s ws 0 p s start u (Rw w n m) is refl refl (omega (arith, said .0, most .cells));
       started = refl;
       none = refl;
       tail = (takes (Rw w n m), (record-fits start s (Rw w n m) is, refl));
+      said = omega (arith, said .1, most .nets);
     }
 
 module _ (s ws : List ℕ) (sum : ℕ) (p : Progress) (t : List ℕ) (c : Reading) (i : InCells s ws sum p t c) where
@@ -67,25 +73,27 @@ module _ (s ws : List ℕ) (sum : ℕ) (p : Progress) (t : List ℕ) (c : Readin
         started = i .started;
         none = i .none;
         tail = (k + takes (Ce w), (omega arith, ap (λ (l : List ℕ). drop (takes (Ce w)) l) (i .tail .1 .1) ∙ drop-drop (takes (Ce w)) k s));
+        said = i .said;
       }
 
 -- ---- between the cells and the nets
 
 -- what is handed on: all widths are read, no net is
-pub record Through (s : List ℕ) (h : Cells) (c : Reading) : Type 0 where
-  pub underway : Underway s (h .widths) (h .sum) (h .progress) (drop (h .bytes) s) c
+pub record Through (s ws : List ℕ) (h : Cells) (c : Reading) : Type 0 where
+  pub underway : Underway s ws (h .sum) (h .progress) (drop (h .bytes) s) c
   pub started : c .head .started ≡ true
   pub all-cells : length (c .widths) ≡ c .head .cells
   pub none : c .nets ≡ []
   pub within : h .bytes ≤ length s
+  pub said : c .head .nets ≤ min (u16At s 8) mostNets
 
 -- what RW and the CE leave: a refusal, or a reading that goes on
-abbrev pub FillsBy : Verdict → List ℕ → Cells → Type 0
-FillsBy Taken s h = (c : Reading) × Through s h c
-FillsBy (Refused q) s h = readRow s ≡ refused q (h .progress .place)
+abbrev pub FillsBy : Verdict → List ℕ → List ℕ → Cells → Type 0
+FillsBy Taken s ws h = (c : Reading) × Through s ws h c
+FillsBy (Refused q) s ws h = readRow s ≡ refused q (h .progress .place)
 
 pub cells-through : (s ws : List ℕ) (sum : ℕ) (p : Progress) (t : List ℕ) (c : Reading) → InCells s ws sum p t c → p .cells ≤ p .filled
-    → Through s (record { verdict = Taken; progress = p; bytes = length s - length t; sum = sum; widths = ws }) c
+    → Through s ws (record { verdict = Taken; progress = p; bytes = length s - length t; sum = sum }) c
 cells-through s ws sum p t c i full =
     let k = i .tail .0 in
     let within : k ≤ length s = i .tail .1 .0 in
@@ -98,13 +106,14 @@ cells-through s ws sum p t c i full =
       all-cells = omega (arith, u .shows .filled, u .shows .cells, u .good .within .filled);
       none = i .none;
       within = omega arith;
+      said = i .said;
     }
 
 -- ---- refused on the way
 
-pub cells-refused : (s : List ℕ) (h : Cells) (q : Refusal) (p : Progress) → h .verdict ≡ Refused q → h .progress ≡ p → readRow s ≡ refused q (p .place)
-    → FillsBy (h .verdict) s h
-cells-refused s h q p verdict progress e = rw (verdict, progress) e
+pub cells-refused : (s ws : List ℕ) (h : Cells) (q : Refusal) (p : Progress) → h .verdict ≡ Refused q → h .progress ≡ p
+    → readRow s ≡ refused q (p .place) → FillsBy (h .verdict) s ws h
+cells-refused s ws h q p verdict progress e = rw (verdict, progress) e
 
 pub row-refused : (s ws : List ℕ) (p : Progress) (r : Record) → Shows p ws start → recordAt start s ≡ r → ((w n m : ℕ) → r ≡ Rw w n m → ⊥)
     → readRow s ≡ refused (refusalOf r) (p .place)

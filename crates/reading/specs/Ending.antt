@@ -1,5 +1,5 @@
--- The end of a row: what EN and the bytes after it make of what was read (3, then 6, then taken), and that the code's struct then holds
--- the row.
+-- The end of a row: what EN and the bytes after it make of what was read (3, then 6, then taken), and that the code's struct and
+-- the lists then hold the row.
 use Prim.Native.Nat.{ℕ, _+_, _≤_, _<_}
 use mathlib.Core.Path.{_≡_, refl, sym, _∙_}
 use mathlib.Core.List.{List, [], _∷_, _++_, reverse, reverse-cons}
@@ -11,22 +11,20 @@ use lib.ListN.{length, getD, drop, length-reverse, List·getD-append}
 use borrow.Author.Tests.{ne-eqb, eq-eqb, le-leb, lt-leb}
 use Rattle.rules.specs.Row.{Net as Listed, Row}
 use Rattle.rules.specs.Records.{Reading, recordAt}
-use Rattle.rules.specs.Reading.{Read, taken, refused, total, ended, readRow}
+use Rattle.rules.specs.Reading.{taken, refused, total, ended, readRow}
 use Rattle.rules.specs.declared.Refusal.{Refusal}
 use Rattle.rules.specs.declared.Refusal.the-variants.{Tail, Full}
 use Rattle.rules.specs.declared.Record.{Record}
 use Rattle.rules.specs.declared.Record.the-variants.{En, Refused}
 use Rattle.records.specs.declared.Progress.{Progress}
 use Rattle.nets.specs.Summary.{summary}
-use Rattle.nets.specs.declared.Net.{Net}
+use Rattle.nets.specs.NetLists.{NetLists, netAt}
 use Rattle.nets.specs.declared.Draft.{Draft}
 use Rattle.reading.specs.ReadingLaws.{goesOn, read-refused, read-end}
 use Rattle.reading.specs.SoundLaws.{sound-read}
-use Rattle.reading.specs.Reads.{blank, noNet, refusedSheet, withoutNets, Reads}
+use Rattle.reading.specs.Reads.{noNet, takenSheet, closedBy, Holds, Reads}
 use Rattle.reading.specs.Underway.{Underway, told}
-use Rattle.reading.specs.Cells.{Through}
-use Rattle.reading.specs.Nets.{Stored, InNets}
-use Rattle.reading.specs.declared.Cells.{Cells}
+use Rattle.reading.specs.Nets.{Stored, InNets, all-stored, closed-slots}
 use Rattle.reading.specs.declared.Sheet.{Sheet}
 use Rattle.reading.specs.declared.Verdict.{Verdict}
 use Rattle.reading.specs.declared.Verdict.the-variants.{Taken, Refused as Refuse}
@@ -52,21 +50,17 @@ snoc-getD : (ts : List Listed) (t : Listed) (k : ℕ) → k ≡ length ts → ge
 snoc-getD [] t k e = rw e
 snoc-getD (x ∷ ts) t k e = rw e (snoc-getD ts t (length ts) refl)
 
-stored-at : (W : ℕ) (net : List Net) (ts : List Listed) → Stored W net ts → (k : ℕ) → k < length ts
-    → getD net k blank ≡ summary W (getD (reverse ts) k noNet)
-stored-at W net [] h k l = absurd (omega arith)
-stored-at W net (t ∷ ts) h k l =
+stored-at : (W : ℕ) (ls : NetLists) (ts : List Listed) → Stored W ls ts → (k : ℕ) → k < length ts
+    → netAt ls k ≡ summary W (getD (reverse ts) k noNet)
+stored-at W ls [] h k l = absurd (omega arith)
+stored-at W ls (t ∷ ts) h k l =
     let long = length-reverse ts in
     ⊎-elim
     (λ (e : k ≡ length ts). rw (reverse-cons, snoc-getD (reverse ts) t k (omega arith)) (rw e (h .0)))
-    (λ (e : k < length ts). rw (reverse-cons, List·getD-append (reverse ts) (t ∷ []) noNet k (omega arith)) (stored-at W net ts (h .1) k e))
+    (λ (e : k < length ts). rw (reverse-cons, List·getD-append (reverse ts) (t ∷ []) noNet k (omega arith)) (stored-at W ls ts (h .1) k e))
     (eq-or-lt-of-le {n = k} {m = length ts} (omega arith))
 
 -- ---- what the struct says
-
-pub refused-reads : (x : Read) (q : Refusal) (place : ℕ) → x ≡ refused q place → Reads x (refusedSheet q place)
-unfolding refusedSheet
-refused-reads x q place e = rw e (refl, refl, record { width = refl; cells = refl; nets = refl; widths = refl; net = refl })
 
 -- the row that a reading holds
 abbrev pub rowOf : Reading → Row
@@ -102,43 +96,27 @@ abbrev pub EndsBy : Verdict → List ℕ → List ℕ → Reading → ℕ → Ty
 EndsBy Taken s t c place = (recordAt c t ≡ En) × (readRow s ≡ taken (rowOf c))
 EndsBy (Refuse q) s t c place = readRow s ≡ refused q place
 
--- the sheet that is filled while the nets are read
-pub record Filling (h : Sheet) (c : Reading) : Type 0 where
-  pub verdict : h .verdict ≡ Taken
-  pub place : h .place ≡ 0
-  pub width : h .width ≡ c .head .width
-  pub cells : h .cells ≡ c .head .cells
-  pub nets : h .nets ≡ c .head .nets
-
-pub first-filling : (s : List ℕ) (h : Cells) (c : Reading) → Through s h c → Filling (withoutNets h) c
-unfolding withoutNets
-first-filling s h c q =
-    let shows = q .underway .shows in
-    record { verdict = refl; place = refl; width = shows .width; cells = shows .cells; nets = shows .nets }
-
--- one more net stored in it leaves the rest as it is
-pub more-filling : (h : Sheet) (c c′ : Reading) → Filling h c → c′ .head ≡ c .head → (net : List Net)
-    → Filling (record { verdict = h .verdict; place = h .place; width = h .width; cells = h .cells; nets = h .nets; widths = h .widths; net = net }) c′
-more-filling h c c′ f head net = record { verdict = f .verdict; place = f .place; width = rw head (f .width); cells = rw head (f .cells); nets = rw head (f .nets) }
-
-pub reads-taken : (s : List ℕ) (sum : ℕ) (p : Progress) (t : List ℕ) (d : Draft) (h : Sheet) (c : Reading) → InNets s (h .widths) sum p t d (h .net) c → Filling h c
-    → recordAt c t ≡ En → readRow s ≡ taken (rowOf c) → Reads (readRow s) h
-reads-taken s sum p t d h c i f is e =
-    let u = i .underway in
-    let m = told c t En is in
-    let long = length-reverse (c .nets) in
-    rw e (
-      f .verdict,
+module _ (s ws : List ℕ) (sum : ℕ) (p : Progress) (t : List ℕ) (d : Draft) (ls : NetLists) (c : Reading) (i : InNets s ws sum p t d ls c) where
+  holds-taken : recordAt c t ≡ En → readRow s ≡ taken (rowOf c) → Holds (takenSheet p) ws (closedBy En (p .opened) d ls) (rowOf c)
+  holds-taken is e =
+      let u = i .underway in
+      let m = told c t En is in
+      let long : length (reverse (c .nets)) ≡ c .head .nets = length-reverse (c .nets) ∙ m .all-nets in
+      let stored = all-stored s ws sum p t d ls c i En refl in
       record {
-        width = f .width;
-        cells = f .cells ∙ sym (i .all-cells);
-        nets = f .nets ∙ sym (m .all-nets) ∙ sym long;
-        widths = u .shows .widths;
-        net = λ k l. stored-at (c .head .width) (h .net) (c .nets) (i .stored) k (omega arith);
-        unused = λ k l. i .unused k (omega arith);
-        room-cells = u .room;
-        room-nets = i .slots;
-        place = f .place;
+        width = u .shows .width;
+        cells = u .shows .cells ∙ sym (i .all-cells);
+        nets = u .shows .nets ∙ sym long;
+        widths-are = u .shows .widths;
+        net = λ k l. stored-at (c .head .width) (closedBy En (p .opened) d ls) (c .nets) stored k (omega (arith, m .all-nets, long));
+        room-cells = omega (arith, i .all-cells, u .room);
+        room-nets = rw long (closed-slots s ws sum p t d ls c i En);
+        place = refl;
         sound = sound-read s (rowOf c) e;
-      },
-    )
+      }
+
+  -- EN closes the last net, and the row is taken
+  pub reads-taken : (r : Record) (h : Sheet) (ls′ : NetLists) → recordAt c t ≡ r → h ≡ takenSheet p → ls′ ≡ closedBy r (p .opened) d ls
+      → (recordAt c t ≡ En) × (readRow s ≡ taken (rowOf c)) → Reads (readRow s) h ws ls′
+  reads-taken r h ls′ is sheet lists e =
+      rw (e .1, sheet, lists, sym is ∙ e .0) (refl, holds-taken (e .0) (e .1))

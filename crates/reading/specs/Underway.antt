@@ -1,12 +1,11 @@
 -- How the variables of the code stand for a reading that is under way, what one record more makes of them, and which records can stand
 -- where the code asks for one. Said of the definitions alone, so that the code's proofs only cite it.
-use Prim.Native.Nat.{ℕ, zero, suc, _+_, _<_}
+use Prim.Native.Nat.{ℕ, _+_, _≤_, _<_}
 use mathlib.Core.Path.{_≡_, refl, sym, ap, _∙_, subst}
 use mathlib.Core.List.{List, []}
 use mathlib.Core.Bool.{true, false}
 use native.Mathlib.Omega.{arith}
-use lib.ListN.{length, getD, set, drop, length-set, replicate}
-use Rattle.rules.specs.Sizes.{mostCells}
+use lib.ListN.{length, getD, set, drop, length-set}
 use Rattle.rules.specs.Row.{on}
 use Rattle.rules.specs.Records.{Reading, recordAt, takes}
 use Rattle.rules.specs.Reading.{start, after, total, readFrom, readRow}
@@ -23,12 +22,6 @@ use Rattle.records.specs.Answers.{answers-may}
 use Rattle.reading.specs.ReadingLaws.{goesOn, read-more}
 use Rattle.reading.specs.SoundLaws.{Good, after-good, total-more}
 
--- an array filled with its own default
-pub all-alike {ℓ} : {A : Type ℓ} (n k : ℕ) (x : A) → getD (replicate n x) k x ≡ x
-all-alike zero k x = refl
-all-alike (suc n) zero x = refl
-all-alike (suc n) (suc k) x = all-alike n k x
-
 -- ---- one record more
 
 -- of the bytes s the bytes t are left, and what was read before them stands in p, ws and sum
@@ -36,7 +29,7 @@ pub record Underway (s ws : List ℕ) (sum : ℕ) (p : Progress) (t : List ℕ) 
   pub shows : Shows p ws c
   pub good : Good c
   pub adds : sum ≡ total (c .widths)
-  pub room : length ws ≡ mostCells
+  pub room : c .head .cells ≤ length ws
   pub same : readRow s ≡ readFrom c t
 
 -- what the next record tells
@@ -45,8 +38,8 @@ told c t r is = subst (λ (x : Record). May c x) is (answers-may c t)
 
 module _ (s ws : List ℕ) (sum : ℕ) (p : Progress) (t : List ℕ) (c : Reading) (u : Underway s ws sum p t c) where
   next : (r : Record) (ws′ : List ℕ) (sum′ : ℕ) → recordAt c t ≡ r → goesOn r ≡ true
-      → ((i : ℕ) → getD ws′ i 0 ≡ getD (after c r .widths) i 0) → sum′ ≡ total (after c r .widths) → length ws′ ≡ mostCells
-      → Underway s ws′ sum′ (progressAfter p r) (drop (takes r) t) (after c r)
+      → ((i : ℕ) → i < length (after c r .widths) → getD ws′ i 0 ≡ getD (after c r .widths) i 0) → sum′ ≡ total (after c r .widths)
+      → after c r .head .cells ≤ length ws′ → Underway s ws′ sum′ (progressAfter p r) (drop (takes r) t) (after c r)
   next r ws′ sum′ is going widths sums room =
       record {
         shows = shows-after (u .shows) r ws′ widths;
@@ -61,14 +54,14 @@ module _ (s ws : List ℕ) (sum : ℕ) (p : Progress) (t : List ℕ) (c : Readin
   unfolding after
   next-cell w is =
       let few = told c t (Ce w) is .fewer in
-      let room : p .filled < length ws = omega (arith, u .shows .filled, few, u .good .within .cells, u .room) in
+      let room : p .filled < length ws = omega (arith, u .shows .filled, few, u .room) in
       next (Ce w) (set ws (p .filled) w) (sum + w) is refl (width-stored (u .shows) w room)
-      (ap (λ (n : ℕ). n + w) (u .adds) ∙ sym (total-more (c .widths) w)) (length-set ws (p .filled) w ∙ u .room)
+      (ap (λ (n : ℕ). n + w) (u .adds) ∙ sym (total-more (c .widths) w)) (rw length-set (u .room))
 
   -- any other record leaves the widths as they are
-  pub next-other : (r : Record) → recordAt c t ≡ r → goesOn r ≡ true → after c r .widths ≡ c .widths
+  pub next-other : (r : Record) → recordAt c t ≡ r → goesOn r ≡ true → after c r .widths ≡ c .widths → after c r .head .cells ≤ length ws
       → Underway s ws sum (progressAfter p r) (drop (takes r) t) (after c r)
-  next-other r is going kept = next r ws sum is going (λ i. rw kept (u .shows .widths i)) (rw kept (u .adds)) (u .room)
+  next-other r is going kept room = next r ws sum is going (rw kept (u .shows .widths)) (rw kept (u .adds)) room
 
 -- ---- the record that was asked for, or a refusal
 

@@ -1,20 +1,24 @@
 // Reading a whole row where the broker holds it (document 01, "The row as bytes"): one RW, n CE, then the records of m nets, then EN, the
-// tail (3) and the widths (6). Of a net only its summary is kept, stored anew at each of its records, so that no two ways meet.
+// tail (3) and the widths (6). Of a net only its summary is kept, and put into
+// lent lists when the next NT or EN closes it.
 ghost use mathlib.Core.Path.{_≡_};
 ghost use mathlib.Core.List.{List};
-ghost use Prim.Native.Nat.{ℕ, _≤_};
-ghost use Rattle.rules.specs.Sizes.{widest};
+ghost use Prim.Native.Nat.{ℕ, _≤_, min};
+ghost use lib.ListN.{length};
+ghost use Rattle.rules.specs.Sizes.{widest, mostCells, mostNets};
 ghost use Rattle.rules.specs.Records.{Reading};
 ghost use Rattle.rules.specs.Reading.{after, readRow};
 ghost use Rattle.reading.specs.declared.Verdict.the-variants.{Refused};
 ghost use Rattle.reading.specs.ReadingLaws.{goesOn};
-ghost use Rattle.reading.specs.Reads.{refusedSheet, withoutNets, Reads};
+ghost use Rattle.reading.specs.Reads.{refusedSheet, takenSheet, closesNet, closedBy, Roomy, Reads};
+ghost use Rattle.nets.specs.NetLists.{Room, listsOf};
+ghost use Rattle.numbers.specs.Bytes.{u16At};
 ghost use Rattle.reading.specs.Underway.{refusalOf};
 ghost use Rattle.reading.specs.Cells.{FillsBy};
 ghost use Rattle.reading.specs.Nets.{Drafting};
 ghost use Rattle.reading.specs.Ending.{Closing, EndsBy};
 use nets::Draft;
-use nets::Net;
+use nets::put_net;
 use records::Progress;
 use rules::Record;
 use rules::Refusal;
@@ -25,24 +29,21 @@ pub enum Verdict {
     Refused(Refusal),
 }
 
-// A row that was read: its widths and what is kept of its nets; or the refusal and its place.
+// A row that was read: its width, how many cells and nets; or the refusal and its place. The widths and what is kept of the nets go to lent lists.
 pub struct Sheet {
     pub verdict: Verdict,
     pub place: u32,
     pub width: u32,
     pub cells: usize,
     pub nets: usize,
-    pub widths: [u32; rules::MOST_CELLS],
-    pub net: [Net; rules::MOST_NETS],
 }
 
-// What RW and the CE leave: how far the reading has come, the bytes that they took, the widths and their sum.
+// What RW and the CE leave: how far the reading has come, the bytes that they took, and the sum of the widths.
 struct Cells {
     pub verdict: Verdict,
     pub progress: Progress,
     pub bytes: usize,
     pub sum: u32,
-    pub widths: [u32; rules::MOST_CELLS],
 }
 
 // What the last record says of the row, and the place of a refusal.
@@ -90,7 +91,6 @@ impl Cells {
             progress: p,
             bytes: 0,
             sum: 0,
-            widths: [0; rules::MOST_CELLS],
         }
     }
 }
@@ -99,44 +99,34 @@ impl Sheet {
     fn refused(q: Refusal, place: u32) -> Sheet
         ensures { λ r. ⌜ r ≡ refusedSheet q place ⌝ }
     {
-        let none = Draft::new(0, 0);
-        let blank = none.net;
         Sheet {
             verdict: Verdict::Refused(q),
             place: place,
             width: 0,
             cells: 0,
             nets: 0,
-            widths: [0; rules::MOST_CELLS],
-            net: [blank; rules::MOST_NETS],
         }
     }
 
-    // A row whose widths are read, and that is taken if nothing is wrong with its nets.
-    fn without_nets(h: Cells) -> Sheet
-        ensures { λ r. ⌜ r ≡ withoutNets h ⌝ }
+    // A row that is taken.
+    fn taken(p: Progress) -> Sheet
+        ensures { λ r. ⌜ r ≡ takenSheet p ⌝ }
     {
-        let none = Draft::new(0, 0);
-        let blank = none.net;
-        let p = h.progress;
-        let widths = h.widths;
         Sheet {
             verdict: Verdict::Taken,
             place: 0,
             width: p.width,
             cells: p.cells,
             nets: p.nets,
-            widths: widths,
-            net: [blank; rules::MOST_NETS],
         }
     }
 }
 
 // One RW and n CE.
-fn read_cells(s: &[u8]) -> Cells
-    ensures { λ r. ⌜ FillsBy (r .verdict) (now (s .entry)) r ⌝ }
+fn read_cells(s: &[u8], widths: &mut [u32]) -> Cells
+    requires { ⌜ min (u16At (now s) 6) mostCells ≤ length (now widths) ⌝ }
+    ensures { λ r. ⌜ FillsBy (r .verdict) (now (s .entry)) (now (widths .exit)) r × (length (now (widths .exit)) ≡ length (now (widths .entry))) ⌝ }
 {
-    let mut widths = [0u32; rules::MOST_CELLS];
     let none = Progress::start();
     let r = records::read_first(s);
     let Record::Rw(_, _, _) = r else {
@@ -163,7 +153,6 @@ fn read_cells(s: &[u8]) -> Cells
         progress: p,
         bytes: bytes,
         sum: sum,
-        widths: widths,
     }
 }
 
@@ -213,11 +202,53 @@ fn ended(sum: u32, p: Progress, r: Record, t: &[u8]) -> Finding
     }
 }
 
-// The row that some bytes are, or why they are none: RW and the cells, then the records of the nets up to the one that none follows.
-pub fn read_row(s: &[u8]) -> Sheet
-    ensures { λ r. ⌜ Reads (readRow (now (s .entry))) r ⌝ }
+// Is a net closed before this record? By the next NT, or by EN.
+fn closes(r: Record) -> bool
+    ensures { λ b. ⌜ b ≡ closesNet r ⌝ }
 {
-    let h = read_cells(s);
+    match r {
+        Record::Rw(_, _, _) => false,
+        Record::Ce(_) => false,
+        Record::Nt(_) => true,
+        Record::Fp(_) => false,
+        Record::Mp(_, _) => false,
+        Record::En => true,
+        Record::Refused(_) => false,
+    }
+}
+
+// A record that closes a net: what is kept of that net goes to its place in the lists.
+fn close(
+    r: Record,
+    opened: usize,
+    d: Draft,
+    weights: &mut [u32],
+    ends: &mut [u16],
+    offsets: &mut [u32],
+    fixed: &mut [i32],
+)
+    requires { ⌜ (opened ≤ mostNets) × Room (listsOf (now weights) (now ends) (now offsets) (now fixed)) opened ⌝ }
+    ensures { λ _. ⌜ listsOf (now (weights .exit)) (now (ends .exit)) (now (offsets .exit)) (now (fixed .exit)) ≡ closedBy r opened d (listsOf (now (weights .entry)) (now (ends .entry)) (now (offsets .entry)) (now (fixed .entry))) ⌝ }
+{
+    if closes(r) && 0 < opened {
+        let net = d.net;
+        put_net(net, weights, ends, offsets, fixed, opened - 1);
+    }
+}
+
+// The row that some bytes are, or why they are none: RW and the cells, then the records of the nets up to the one that none follows.
+pub fn read_row(
+    s: &[u8],
+    widths: &mut [u32],
+    weights: &mut [u32],
+    ends: &mut [u16],
+    offsets: &mut [u32],
+    fixed: &mut [i32],
+) -> Sheet
+    requires { ⌜ Roomy (now s) (now widths) (listsOf (now weights) (now ends) (now offsets) (now fixed)) ⌝ }
+    ensures { λ r. ⌜ Reads (readRow (now (s .entry))) r (now (widths .exit)) (listsOf (now (weights .exit)) (now (ends .exit)) (now (offsets .exit)) (now (fixed .exit))) ⌝ }
+{
+    let h = read_cells(s, widths);
     let v = h.verdict;
     if let Verdict::Refused(q) = v {
         return Sheet::refused(q, h.progress.place);
@@ -226,22 +257,19 @@ pub fn read_row(s: &[u8]) -> Sheet
     let mut t = &s[at..];
     let mut p = h.progress;
     let mut d = Draft::new(0, 0);
-    let mut sheet = Sheet::without_nets(h);
     loop {
-        let r = records::read_in_nets(p, &sheet.widths, t);
+        let r = records::read_in_nets(p, widths, t);
+        close(r, p.opened, d, weights, ends, offsets, fixed);
         if !goes_on(r) {
             let f = ended(h.sum, p, r, t);
             let v = f.verdict;
             if let Verdict::Refused(q) = v {
                 return Sheet::refused(q, f.place);
             }
-            return sheet;
+            return Sheet::taken(p);
         }
         d = drafted_by(d, r, p.width);
         p = p.after(r);
-        let k = p.opened - 1;
-        let n = d.net;
-        sheet.net[k] = n;
         let u = records::rest(t, r);
         t = u;
     }

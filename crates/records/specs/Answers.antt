@@ -1,5 +1,5 @@
 -- What reading one record can answer: a record that is read lies within the bytes (`takes-fit`), stands where it may and keeps its
--- ranges (`answers-may`).
+-- ranges (`answers-may`). The numbers of cells and nets are those at their places in RW (`answers-say`).
 use Prim.Native.Nat.{ℕ, _≤_, _<_, zero-le}
 use mathlib.Core.Path.{_≡_, refl}
 use mathlib.Core.List.{List, [], _∷_}
@@ -22,7 +22,7 @@ use Rattle.rules.specs.declared.Refusal.the-variants.{Cut, WrongMark, Range, Lo
 use Rattle.rules.specs.declared.Mark.{Mark}
 use Rattle.rules.specs.declared.Mark.the-variants.{RowMark, CellMark, NetMark, FixedMark, PinMark, EndMark, NoMark}
 use Rattle.rules.specs.declared.Record.{Record}
-use Rattle.rules.specs.declared.Record.the-variants.{Rw, Ce, Nt, Fp, Mp, Refused}
+use Rattle.rules.specs.declared.Record.the-variants.{Rw, Ce, Nt, Fp, Mp, En, Refused}
 use Rattle.records.specs.May.{May, MayClose, MayPin}
 
 both : (a b : Bool) → (a && b) ≡ true → (a ≡ true) × (b ≡ true)
@@ -135,3 +135,32 @@ fields-may c NoMark s a l = tt
 
 pub answers-may : (c : Reading) (s : List ℕ) → May c (recordAt c s)
 answers-may c s = by-answer (May c) c s (λ q. tt) (λ m a l h. fields-may c m s a l)
+
+-- ---- the numbers of RW
+
+abbrev pub Says : List ℕ → Record → Type 0
+Says s (Rw w n m) = (n ≡ u16At s 6) × (m ≡ u16At s 8)
+Says s (Ce w) = Unit
+Says s (Nt w) = Unit
+Says s (Fp x) = Unit
+Says s (Mp i o) = Unit
+Says s En = Unit
+Says s (Refused q) = Unit
+
+fields-say : (c : Reading) (m : Mark) (s : List ℕ) → Says s (fields c m s)
+unfolding fields
+fields-say c RowMark s =
+    by-range (Says s) (leb (u32At s 2) widest && (leb (u16At s 6) mostCells && leb (u16At s 8) mostNets)) (Rw (u32At s 2) (u16At s 6) (u16At s 8))
+    (λ _. (refl, refl)) tt
+fields-say c CellMark s = by-range (Says s) (leb 1 (u32At s 2) && leb (u32At s 2) widest) (Ce (u32At s 2)) (λ _. tt) tt
+fields-say c NetMark s = by-range (Says s) (leb 1 (u32At s 2) && leb (u32At s 2) heaviest) (Nt (u32At s 2)) (λ _. tt) tt
+fields-say c FixedMark s =
+    by-range (Says s) (ltb (c .pins) mostPins && (leZ (negℤ (pos widest)) (i32At s 2) && leZ (i32At s 2) (pos widest))) (Fp (i32At s 2)) (λ _. tt) tt
+fields-say c PinMark s =
+    by-range (Says s) (ltb (c .pins) mostPins && (ltb (u16At s 2) (c .head .cells) && leb (u32At s 4) (getD (c .widths) (u16At s 2) 0)))
+    (Mp (u16At s 2) (u32At s 4)) (λ _. tt) tt
+fields-say c EndMark s = tt
+fields-say c NoMark s = tt
+
+pub answers-say : (c : Reading) (s : List ℕ) → Says s (recordAt c s)
+answers-say c s = by-answer (Says s) c s (λ q. tt) (λ m a l h. fields-say c m s)

@@ -1,13 +1,13 @@
 -- The parts of a row (document 01, "The row as bytes", its order): RW comes first, CE while a width is missing, then the nets and EN.
 -- Which marks may stand in a part, by the numbers of the code's struct, and the order of faults in one record, test by test.
 use Prim.Native.Nat.{ℕ, _≤_, _<_}
-use mathlib.Core.Path.{_≡_, refl}
+use mathlib.Core.Path.{_≡_, refl, ap}
 use mathlib.Core.List.{List, [], _∷_}
 use mathlib.Core.Bool.{Bool, true, false, _&&_, not}
 use native.Mathlib.Omega.{arith}
-use lib.Dec.{ltb, eqb}
+use lib.Dec.{ltb, leb, eqb}
 use lib.ListN.{length}
-use borrow.Author.Tests.{eq-eqb, ne-eqb, lt-ltb, le-ltb, le-leb, lt-leb}
+use borrow.Author.Tests.{eq-eqb, ne-eqb, lt-ltb, le-ltb, le-leb, lt-leb, ltb-true}
 use Rattle.numbers.specs.Bytes.{u16At}
 use Rattle.rules.specs.Row.{Net}
 use Rattle.rules.specs.Records.{Reading, markOf, sizeOf, netOpen, inNets, allowed, lonely, closes, fields, marked, recordAt}
@@ -59,6 +59,14 @@ module _ (c : Reading) (s : List ℕ) where
         pub whole : sizeOf m ≤ length s → fields c m s ≡ marked c m s
         unfolding marked
         whole h = rw (a, l, le-leb _ _ h)
+
+-- the width of a cell counts only where there is such a cell
+pub width-there : (i n o a b : ℕ) → (i < n → a ≡ b) → (ltb i n && leb o a) ≡ (ltb i n && leb o b)
+width-there i n o a b same = go (ltb i n) refl
+  where
+    go : (t : Bool) → ltb i n ≡ t → (t && leb o a) ≡ (t && leb o b)
+    go true e = ap (λ (w : ℕ). leb o w) (same (ltb-true i n e))
+    go false e = refl
 
 -- ---- the marks of each part
 

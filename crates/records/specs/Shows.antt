@@ -1,6 +1,6 @@
--- What a struct of the code says of a reading: the counts are those of the lists, and the array of widths has the widths read so far
--- and 0 after them. Every promise on one record is made of the readings that the struct stands for.
-use Prim.Native.Nat.{ℕ}
+-- What a struct of the code says of a reading: the counts are those of the lists, and the list of widths has the widths read so far, and
+-- anything after them. Every promise on one record is made of the readings that the struct stands for.
+use Prim.Native.Nat.{ℕ, _<_}
 use mathlib.Core.Path.{_≡_}
 use mathlib.Core.List.{List}
 use mathlib.Core.Bool.{not}
@@ -17,4 +17,4 @@ pub record Shows (p : Progress) (ws : List ℕ) (c : Reading) : Type 0 where
   pub opened : p .opened ≡ length (c .nets)
   pub pins : p .pins ≡ c .pins
   pub pinned : p .pinned ≡ not (lonely (c .nets))
-  pub widths : (i : ℕ) → getD ws i 0 ≡ getD (c .widths) i 0
+  pub widths : (i : ℕ) → i < length (c .widths) → getD ws i 0 ≡ getD (c .widths) i 0

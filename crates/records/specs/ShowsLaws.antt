@@ -18,17 +18,19 @@ use Rattle.records.specs.Shows.{Shows}
 -- ---- one width more
 
 -- a width stored after those that are there is one width more
-stored-next : (ws vs : List ℕ) (w : ℕ) → ((i : ℕ) → getD ws i 0 ≡ getD vs i 0) → length vs < length ws → (i : ℕ) → getD (set ws (length vs) w) i 0 ≡ getD (vs ++ (w ∷ [])) i 0
-stored-next [] vs w same room i = absurd (omega arith)
-stored-next (x ∷ ws) [] w same room zero = refl
-stored-next (x ∷ ws) [] w same room (suc i) = same (suc i)
-stored-next (x ∷ ws) (v ∷ vs) w same room zero = same 0
-stored-next (x ∷ ws) (v ∷ vs) w same room (suc i) = stored-next ws vs w (λ j. same (suc j)) (omega arith) i
+stored-next : (ws vs : List ℕ) (w : ℕ) → ((i : ℕ) → i < length vs → getD ws i 0 ≡ getD vs i 0) → length vs < length ws
+    → (i : ℕ) → i < length (vs ++ (w ∷ [])) → getD (set ws (length vs) w) i 0 ≡ getD (vs ++ (w ∷ [])) i 0
+stored-next [] vs w same room i h = absurd (omega arith)
+stored-next (x ∷ ws) [] w same room zero h = refl
+stored-next (x ∷ ws) [] w same room (suc i) h = absurd (omega arith)
+stored-next (x ∷ ws) (v ∷ vs) w same room zero h = same 0 (omega arith)
+stored-next (x ∷ ws) (v ∷ vs) w same room (suc i) h = stored-next ws vs w (λ j l. same (suc j) (omega arith)) (omega arith) i (omega arith)
 
--- the array after the next width is stored agrees with the widths after CE
-pub width-stored : {p : Progress} {ws : List ℕ} {c : Reading} → Shows p ws c → (w : ℕ) → p .filled < length ws → (i : ℕ) → getD (set ws (p .filled) w) i 0 ≡ getD (after c (Ce w) .widths) i 0
+-- the list after the next width is stored agrees with the widths after CE
+pub width-stored : {p : Progress} {ws : List ℕ} {c : Reading} → Shows p ws c → (w : ℕ) → p .filled < length ws
+    → (i : ℕ) → i < length (after c (Ce w) .widths) → getD (set ws (p .filled) w) i 0 ≡ getD (after c (Ce w) .widths) i 0
 unfolding after
-width-stored {p} {ws} {c} h w room i = rw (h .filled) (stored-next ws (c .widths) w (h .widths) (omega (arith, h .filled)) i)
+width-stored {p} {ws} {c} h w room i l = rw (h .filled) (stored-next ws (c .widths) w (h .widths) (omega (arith, h .filled)) i l)
 
 -- ---- an open net with one pin more
 
@@ -64,18 +66,20 @@ unfolding withPin
 same-nets p [] = refl
 same-nets p (t ∷ ts) = refl
 
--- ---- the struct and the array after one record more
+-- ---- the struct and the list after one record more
 
--- an array with the same widths stands for the same reading
-pub shows-widths : {p : Progress} {ws : List ℕ} {c : Reading} → Shows p ws c → (ws′ : List ℕ) → ((i : ℕ) → getD ws′ i 0 ≡ getD (c .widths) i 0) → Shows p ws′ c
+-- a list with the same widths stands for the same reading
+pub shows-widths : {p : Progress} {ws : List ℕ} {c : Reading} → Shows p ws c → (ws′ : List ℕ)
+    → ((i : ℕ) → i < length (c .widths) → getD ws′ i 0 ≡ getD (c .widths) i 0) → Shows p ws′ c
 shows-widths h ws′ same =
     record { place = h .place; width = h .width; cells = h .cells; nets = h .nets; filled = h .filled; opened = h .opened; pins = h .pins; pinned = h .pinned; widths = same }
 
 one-on : {a b : ℕ} → a ≡ b → a + 1 ≡ b + 1
 one-on e = ap (λ (k : ℕ). k + 1) e
 
--- the struct after a record stands for the reading after it, with an array that has the widths of that reading
-pub shows-after : {p : Progress} {ws : List ℕ} {c : Reading} → Shows p ws c → (r : Record) (ws′ : List ℕ) → ((i : ℕ) → getD ws′ i 0 ≡ getD (after c r .widths) i 0) → Shows (progressAfter p r) ws′ (after c r)
+-- the struct after a record stands for the reading after it, with a list that has the widths of that reading
+pub shows-after : {p : Progress} {ws : List ℕ} {c : Reading} → Shows p ws c → (r : Record) (ws′ : List ℕ)
+    → ((i : ℕ) → i < length (after c r .widths) → getD ws′ i 0 ≡ getD (after c r .widths) i 0) → Shows (progressAfter p r) ws′ (after c r)
 unfolding after
 shows-after h (Rw w n m) ws′ same =
     record { place = one-on (h .place); width = refl; cells = refl; nets = refl; filled = h .filled; opened = h .opened; pins = h .pins; pinned = h .pinned; widths = same }

@@ -73,7 +73,7 @@ fn size_of(m: Mark) -> usize
 impl Progress {
     // Nothing read yet.
     pub fn start() -> Self
-        ensures { λ r. ⌜ ((ws : List ℕ) → ((i : ℕ) → getD ws i 0 ≡ 0) → Shows r ws start) ⌝ }
+        ensures { λ r. ⌜ ((ws : List ℕ) → Shows r ws start) ⌝ }
     {
         Progress {
             place: 0,
@@ -187,14 +187,8 @@ fn fixed_of(x: i32, pins: usize) -> Record
 }
 
 // A pin on a cell, after the count of pins. The width of the cell is read only where there is such a cell.
-fn pin_of(
-    cell: u16,
-    offset: u32,
-    pins: usize,
-    cells: usize,
-    widths: &[u32; rules::MOST_CELLS],
-) -> Record
-    requires { ⌜ cells ≤ mostCells ⌝ }
+fn pin_of(cell: u16, offset: u32, pins: usize, cells: usize, widths: &[u32]) -> Record
+    requires { ⌜ cells ≤ length (now widths) ⌝ }
     ensures { λ r. ⌜ r ≡ ranged (ltb pins mostPins && (ltb cell cells && leb offset (getD (now (widths .entry)) cell 0))) (Mp cell offset) ⌝ }
 {
     if pins >= rules::MOST_PINS {
@@ -278,9 +272,9 @@ fn read_fixed(p: Progress, s: &[u8]) -> Record
 }
 
 // MP: a pin of the open net on a cell.
-fn read_pin(p: Progress, widths: &[u32; rules::MOST_CELLS], s: &[u8]) -> Record
-    requires { ⌜ p .cells ≤ mostCells ⌝ }
-    ensures { λ r. ⌜ ((c : Reading) → Shows p (now (widths .entry)) c → r ≡ marked c PinMark (now (s .entry))) ⌝ }
+fn read_pin(p: Progress, widths: &[u32], s: &[u8]) -> Record
+    requires { ⌜ p .cells ≤ length (now widths) ⌝ }
+    ensures { λ r. ⌜ ((c : Reading) → Shows p (now (widths .entry)) c → AtNets c → r ≡ marked c PinMark (now (s .entry))) ⌝ }
 {
     if p.opened == 0 {
         return Record::Refused(Refusal::WrongMark);
@@ -311,8 +305,8 @@ fn read_end(p: Progress) -> Record
 }
 
 // A record once all widths are read: of a net, or EN.
-pub fn read_in_nets(p: Progress, widths: &[u32; rules::MOST_CELLS], s: &[u8]) -> Record
-    requires { ⌜ p .cells ≤ mostCells ⌝ }
+pub fn read_in_nets(p: Progress, widths: &[u32], s: &[u8]) -> Record
+    requires { ⌜ p .cells ≤ length (now widths) ⌝ }
     ensures { λ r. ⌜ ((c : Reading) → Shows p (now (widths .entry)) c → AtNets c → r ≡ recordAt c (now (s .entry))) ⌝ }
 {
     if s.len() < 2 {

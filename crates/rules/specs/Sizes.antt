@@ -11,6 +11,13 @@ mostCells = 256
 abbrev pub mostNets : ℕ
 mostNets = 512
 
+-- rows of up to so many cells and nets are worked on in short lists
+abbrev pub fewCells : ℕ
+fewCells = 64
+
+abbrev pub fewNets : ℕ
+fewNets = 128
+
 -- a net's weight is 1 up to this
 abbrev pub heaviest : ℕ
 heaviest = 1_000

@@ -25,6 +25,15 @@ pub const PART_SIZE: usize = 6;
 
 pub const BENCH_SIZE: usize = 1_547;
 
+// Rows of up to so many cells and nets are worked on in short lists, which take less time to clear.
+pub const FEW_CELLS: usize = 64;
+
+pub const FEW_ENDS: usize = FEW_CELLS + 1;
+
+pub const FEW_NETS: usize = 128;
+
+pub const FEW_CHANGES: usize = 2 * FEW_NETS;
+
 // Four counts that never stand in for one another.
 pub struct Site(pub u32);
 

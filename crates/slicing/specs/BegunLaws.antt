@@ -11,31 +11,30 @@ use Rattle.rules.specs.Steps.{Bench as Meant}
 use Rattle.rules.specs.Bench.{savedHand, savedClumps, clumpAt, clumpsTo, benchOf, inForm}
 use Rattle.slopes.specs.Forgotten.{cellsIn, allClumps, Proper, in-form-proper}
 use Rattle.slopes.specs.Apart.{proper-clumps}
-use Rattle.changes.specs.Parts.{mostChanges}
+use Rattle.changes.specs.Fills.{mostChanges}
 use Rattle.benches.specs.declared.Saved.{Saved}
 use Rattle.benches.specs.Saved.{Tells}
 use Rattle.benches.specs.MadeLaws.{clump-cells, clump-edge}
-use Rattle.benches.specs.FormLaws.{Formed, formed, by-hand, settled-are, bench-with, bench-without}
+use Rattle.benches.specs.FormLaws.{Formed, formed, by-hand, settled-are, bench-with, bench-without, clumps-least}
 use Rattle.benches.specs.BackLaws.{clumps-count, bench-opened, bench-carried}
 use Rattle.engine.specs.declared.Bench.{Bench}
-use Rattle.engine.specs.Stands.{Listed, inHand, Numbers}
+use Rattle.engine.specs.Stands.{Listed, Numbers}
 use Rattle.slicing.specs.Begun.{begun}
 
-module _ (R : Row) (s : List ℕ) (r : Saved) (form : inForm R s ≡ true) (tells : Tells s r) (few : length (R .widths) ≤ mostCells)
-    (cells-long : length (r .cells) ≡ mostCells) (edges-long : length (r .edges) ≡ mostCells) where
+module _ (R : Row) (s cells edges : List ℕ) (r : Saved) (form : inForm R s ≡ true) (tells : Tells s cells edges r) (few : length (R .widths) ≤ mostCells) where
   f : Formed R s
   f = formed R s form
 
   proper : Proper R (benchOf R s)
   proper = in-form-proper R s form
 
-  listed-to : (k : ℕ) → k ≤ savedClumps s → Listed (r .cells) (r .edges) (clumpsTo R s k)
+  listed-to : (k : ℕ) → k ≤ savedClumps s → Listed cells edges (clumpsTo R s k)
   unfolding clumpsTo
   listed-to zero h = tt
   listed-to (suc k) h =
       let n = clumps-count R s k in (
-        rw n (tells .cells k (omega arith) ∙ sym (clump-cells R s k (f .have-cells k (omega arith)))),
-        rw n (tells .edges k (omega arith) ∙ sym (clump-edge R s k)),
+        rw n (tells .cells-are k (omega arith) ∙ sym (clump-cells R s k (f .have-cells k (omega arith)))),
+        rw n (tells .edges-are k (omega arith) ∙ sym (clump-edge R s k)),
         listed-to k (omega arith),
       )
 
@@ -43,10 +42,10 @@ module _ (R : Row) (s : List ℕ) (r : Saved) (form : inForm R s ≡ true) (tell
   few-carried = omega (arith, bench-carried R s f, f .carried-few, proper-clumps R (benchOf R s) proper, bench-opened R s f, f .within)
 
   abbrev start : Bench
-  start = begun (r .opened) (r .held) (r .clumps) (r .carried) (r .cells)
+  start = begun (r .opened) (r .held) (r .clumps) (r .carried) cells
 
   -- nothing in hand
-  begun-without : savedHand s ≡ 0 → Numbers R start (r .cells) (r .edges) (benchOf R s)
+  begun-without : savedHand s ≡ 0 → Numbers R start cells edges (benchOf R s)
   begun-without e =
       let held : r .held ≡ false = tells .held ∙ rw e refl in
       let b = bench-without R s e in
@@ -58,17 +57,14 @@ module _ (R : Row) (s : List ℕ) (r : Saved) (form : inForm R s ≡ true) (tell
         apart-all = rw (settled-are R s (f .hand-bit) (f .hand-clump)) (f .stand-apart);
         few-carried = few-carried;
         opened-is = tells .opened ∙ sym (bench-opened R s f);
-        held-is = sym (ap (λ (x : Meant). inHand (x .hand)) b);
-        first-is = λ t. let z : _≡_ {A = ℕ} 0 1 = cc in absurd (omega arith);
+        first-is = tells .opened ∙ sym (bench-opened R s f) ∙ sym (proper .all-cells) ∙ ap (λ (x : Meant). cellsIn (allClumps (x .hand) (x .settled))) b ∙ ap cellsIn (sym settled);
         settled-is = tells .clumps ∙ sym (ap length settled ∙ clumps-count R s (savedClumps s));
         carried-is = tells .carried ∙ sym (bench-carried R s f);
         listed = rw settled (listed-to (savedClumps s) (omega arith));
-        cells-long = cells-long;
-        edges-long = edges-long;
       })
 
   -- the last clump in hand: its cells are the last that were opened
-  hand-cells : savedHand s ≡ 1 → cellsIn (benchOf R s .settled) + getD (r .cells) (r .clumps - 1) 0 ≡ r .opened
+  hand-cells : savedHand s ≡ 1 → cellsIn (benchOf R s .settled) + getD cells (r .clumps - 1) 0 ≡ r .opened
   unfolding cellsIn
   hand-cells e =
       let some : 1 ≤ savedClumps s = omega (arith, f .hand-clump) in
@@ -83,11 +79,11 @@ module _ (R : Row) (s : List ℕ) (r : Saved) (form : inForm R s ≡ true) (tell
         proper .all-cells,
         bench-opened R s f,
         tells .opened,
-        tells .cells (savedClumps s - 1) (omega arith),
+        tells .cells-are (savedClumps s - 1) (omega arith),
         clump-cells R s (savedClumps s - 1) (f .have-cells (savedClumps s - 1) (omega arith)),
       ))
 
-  begun-with : savedHand s ≡ 1 → Numbers R start (r .cells) (r .edges) (benchOf R s)
+  begun-with : savedHand s ≡ 1 → Numbers R start cells edges (benchOf R s)
   begun-with e =
       let some : 1 ≤ savedClumps s = omega (arith, f .hand-clump) in
       let held : r .held ≡ true = tells .held ∙ rw e refl in
@@ -100,25 +96,22 @@ module _ (R : Row) (s : List ℕ) (r : Saved) (form : inForm R s ≡ true) (tell
         apart-all = rw (settled-are R s (f .hand-bit) (f .hand-clump)) (f .stand-apart);
         few-carried = few-carried;
         opened-is = tells .opened ∙ sym (bench-opened R s f);
-        held-is = sym (ap (λ (x : Meant). inHand (x .hand)) b);
-        first-is = λ t. omega (arith, hand-cells e);
+        first-is = omega (arith, hand-cells e);
         settled-is = rw (tells .clumps) (sym (ap length settled ∙ clumps-count R s (savedClumps s - 1)));
         carried-is = tells .carried ∙ sym (bench-carried R s f);
         listed = rw settled (listed-to (savedClumps s - 1) (omega arith));
-        cells-long = cells-long;
-        edges-long = edges-long;
       })
 
-  pub begun-numbers : Numbers R start (r .cells) (r .edges) (benchOf R s)
+  pub begun-numbers : Numbers R start cells edges (benchOf R s)
   begun-numbers = by-hand R s (f .hand-bit) begun-without begun-with
 
   -- what making them asks
-  pub begun-asks : (r .clumps ≤ mostCells) × (cond (r .held) 1 0 ≤ r .clumps) × (cond (r .held) (getD (r .cells) (r .clumps - 1) 0) 0 ≤ r .opened)
+  pub begun-asks : (r .clumps ≤ length (R .widths)) × (cond (r .held) 1 0 ≤ r .clumps) × (cond (r .held) (getD cells (r .clumps - 1) 0) 0 ≤ r .opened)
   begun-asks =
       by-hand R s (f .hand-bit)
       (λ e.
       let held : r .held ≡ false = tells .held ∙ rw e refl in
-      rw held (omega (arith, tells .clumps, f .few), omega arith, omega arith))
+      rw held (omega (arith, tells .clumps, clumps-least f, f .within), omega arith, omega arith))
       (λ e.
       let held : r .held ≡ true = tells .held ∙ rw e refl in
-      rw held (omega (arith, tells .clumps, f .few), omega (arith, tells .clumps, f .hand-clump), omega (arith, hand-cells e)))
+      rw held (omega (arith, tells .clumps, clumps-least f, f .within), omega (arith, tells .clumps, f .hand-clump), omega (arith, hand-cells e)))

@@ -9,7 +9,8 @@ use native.Mathlib.Nat.{eq-or-lt-of-le, le-of-suc-le-suc}
 use native.Mathlib.Omega.{arith}
 use lib.ListN.{length, getD, set, length-append, length-reverse, List·getD-append}
 use lib.Seq.{getD-append-add, getD-set-same, getD-set-other}
-use lib.Dec.{leb}
+use lib.Dec.{eqb, leb}
+use borrow.Author.Tests.{eq-eqb, ne-eqb}
 use Rattle.rules.specs.Sizes.{mostCells}
 use Rattle.rules.specs.Row.{Row}
 use Rattle.rules.specs.Steps.{Clump, Hand, empty, holding, Bench as Meant, finishedBy, finished}
@@ -18,7 +19,8 @@ use Rattle.slopes.specs.Forgotten.{cellsIn, allClumps}
 use Rattle.slopes.specs.Apart.{proper-clumps}
 use Rattle.benches.specs.Saved.{none, Written}
 use Rattle.engine.specs.declared.Bench.{Bench}
-use Rattle.engine.specs.Stands.{Listed, inHand, Numbers}
+use Rattle.engine.specs.Stands.{Listed, Numbers}
+use Rattle.slicing.specs.Begun.{Saves}
 
 -- ---- lists of clumps, the last one first, and in order
 
@@ -59,7 +61,13 @@ listed-past cells edges (c ∷ cs) i x y l h =
 
 -- ---- what is written
 
+-- is a clump in hand?
+inHand : Hand → Bool
+inHand empty = false
+inHand (holding c) = true
+
 hand-byte : (hand : Hand) (t : Bool) → inHand hand ≡ t → cond t 1 0 ≡ handByte hand
+unfolding inHand
 hand-byte empty t e = rw (sym e) refl
 hand-byte (holding c) t e = rw (sym e) refl
 
@@ -80,87 +88,89 @@ all-written b opened held clumps carried cells edges o h n c listed =
     }
 
 module _ (R : Row) (e : Bench) (cells edges : List ℕ) where
-  -- nothing in hand
-  without-hand : (b : Meant) → Numbers R e cells edges b → e .held ≡ false → (hand : Hand) → b .hand ≡ hand
-      → (length (allClumps (b .hand) (b .settled)) ≡ length (b .settled)) × Listed cells edges (allClumps (b .hand) (b .settled))
-  without-hand b n t empty q = rw q (refl, n .listed)
-  without-hand b n t (holding c) q =
-      let y : inHand (b .hand) ≡ true = ap inHand q in
-      let f = n .held-is in
-      let z : _≡_ {A = ℕ} 0 1 = cc in
-      absurd (omega arith)
-
-  hand-there : (b : Meant) → Numbers R e cells edges b → e .held ≡ true → b .hand ≡ empty → ⊥
-  hand-there b n t q =
-      let y : inHand (b .hand) ≡ false = ap inHand q in
-      let f = n .held-is in
-      let z : _≡_ {A = ℕ} 0 1 = cc in
-      omega arith
-
-  -- the clump in hand: there is room for it, its cells are the last that were opened, and its edge is 0
-  hand-is : (b : Meant) → Numbers R e cells edges b → e .held ≡ true → length (R .widths) ≤ mostCells → (c : Clump) → b .hand ≡ holding c
-      → (e .settled < mostCells) × (e .opened - e .first ≡ c .cells) × (c .edge ≡ 0) × (e .first ≤ e .opened)
+  -- with a clump in hand its cells are the last that were opened
+  some-held : (b : Meant) → Numbers R e cells edges b → (c : Clump) → b .hand ≡ holding c → (e .first < e .opened) × (e .opened - e .first ≡ c .cells) × (c .edge ≡ 0)
   unfolding cellsIn
-  hand-is b n t few c q =
-      let count : length (allClumps (holding c) (b .settled)) ≤ b .opened = rw q at (proper-clumps R b (n .proper)) in
-      let sum : cellsIn (allClumps (holding c) (b .settled)) ≡ b .opened = rw q at (n .proper .all-cells) in
-      let edge : handEdge (holding c) ≡ 0 = rw q at (n .proper .hand-edge) in
-      let first = n .first-is t in
-      (omega (arith, n .settled-is, n .within), omega (arith, n .opened-is), edge, omega (arith, n .opened-is))
+  some-held b n c q =
+      let all : cellsIn (allClumps (holding c) (b .settled)) ≡ b .opened = rw q at (n .proper .all-cells) in
+      let some = rw q at (n .proper .all-made) in
+      let edge : handEdge (holding c) ≡ 0 = rw q at (n .proper .hand-edge) in (
+        omega (arith, n .first-is, n .opened-is, some .0 .some),
+        omega (arith, n .first-is, n .opened-is),
+        edge,
+      )
+
+  none-held : (b : Meant) → Numbers R e cells edges b → b .hand ≡ empty → e .first ≡ e .opened
+  none-held b n q =
+      let all : cellsIn (allClumps empty (b .settled)) ≡ b .opened = rw q at (n .proper .all-cells) in
+      omega (arith, n .first-is, n .opened-is)
+
+  -- nothing in hand
+  without-hand : (b : Meant) → Numbers R e cells edges b → e .first ≡ e .opened → (hand : Hand) → b .hand ≡ hand
+      → (inHand (b .hand) ≡ false) × (length (allClumps (b .hand) (b .settled)) ≡ length (b .settled)) × Listed cells edges (allClumps (b .hand) (b .settled))
+  unfolding inHand
+  without-hand b n t empty q = rw q (refl, refl, n .listed)
+  without-hand b n t (holding c) q = absurd (omega (arith, some-held b n c q .0))
 
   -- a clump in hand, put after the settled ones at edge 0
-  with-hand : (b : Meant) → Numbers R e cells edges b → e .held ≡ true → length (R .widths) ≤ mostCells → (hand : Hand) → b .hand ≡ hand
-      → (length (allClumps (b .hand) (b .settled)) ≡ length (b .settled) + 1)
+  with-hand : (b : Meant) → Numbers R e cells edges b → (e .first ≡ e .opened → ⊥) → Saves R cells edges → (hand : Hand) → b .hand ≡ hand
+      → (inHand (b .hand) ≡ true) × (length (allClumps (b .hand) (b .settled)) ≡ length (b .settled) + 1)
       × Listed (set cells (e .settled) (e .opened - e .first)) (set edges (e .settled) 0) (allClumps (b .hand) (b .settled))
-  with-hand b n t few empty q = absurd (hand-there b n t q)
-  with-hand b n t few (holding c) q =
-      let hand = hand-is b n t few c q in
+  unfolding inHand
+  with-hand b n t v empty q = absurd (t (none-held b n q))
+  with-hand b n t v (holding c) q =
+      let held = some-held b n c q in
       let place = n .settled-is in
+      let count : length (allClumps (holding c) (b .settled)) ≤ b .opened = rw q at (proper-clumps R b (n .proper)) in
       rw q (
+        refl,
         omega arith,
         (
-          rw (sym place) (getD-set-same cells (e .settled) (e .opened - e .first) 0 (omega (arith, n .cells-long, hand .0)) ∙ hand .1),
-          rw (sym place) (getD-set-same edges (e .settled) 0 0 (omega (arith, n .edges-long, hand .0)) ∙ sym (hand .2)),
+          rw (sym place) (getD-set-same cells (e .settled) (e .opened - e .first) 0 (omega (arith, v .cells-long, n .within)) ∙ held .1),
+          rw (sym place) (getD-set-same edges (e .settled) 0 0 (omega (arith, v .edges-long, n .within)) ∙ sym (held .2)),
           listed-past cells edges (b .settled) (e .settled) (e .opened - e .first) 0 (omega arith) (n .listed),
         ),
       )
 
   -- ---- the bench that is written
 
-  pub written-without : (b : Meant) → Numbers R e cells edges b → e .held ≡ false → Written (e .opened) false (e .settled) (e .carried .0) cells edges b
+  pub written-without : (b : Meant) → Numbers R e cells edges b → e .first ≡ e .opened → Written (e .opened) false (e .settled) (e .carried .0) cells edges b
   written-without b n t =
       let w = without-hand b n t (b .hand) refl in
-      all-written b (e .opened) false (e .settled) (e .carried .0) cells edges (n .opened-is) (sym (n .held-is) ∙ t) (n .settled-is ∙ sym (w .0)) (n .carried-is) (w .1)
+      all-written b (e .opened) false (e .settled) (e .carried .0) cells edges (n .opened-is) (w .0) (n .settled-is ∙ sym (w .1)) (n .carried-is) (w .2)
 
-  pub written-with : (b : Meant) → Numbers R e cells edges b → e .held ≡ true → length (R .widths) ≤ mostCells
+  pub written-with : (b : Meant) → Numbers R e cells edges b → (e .first ≡ e .opened → ⊥) → Saves R cells edges
       → Written (e .opened) true (e .settled + 1) (e .carried .0) (set cells (e .settled) (e .opened - e .first)) (set edges (e .settled) 0) b
-  written-with b n t few =
-      let w = with-hand b n t few (b .hand) refl in
-      all-written b (e .opened) true (e .settled + 1) (e .carried .0) _ _ (n .opened-is) (sym (n .held-is) ∙ t) (omega (arith, n .settled-is, w .0)) (n .carried-is) (w .1)
+  written-with b n t v =
+      let w = with-hand b n t v (b .hand) refl in
+      all-written b (e .opened) true (e .settled + 1) (e .carried .0) _ _ (n .opened-is) (w .0) (omega (arith, n .settled-is, w .1)) (n .carried-is) (w .2)
 
   -- what writing asks of the numbers
-  pub left-within : (b : Meant) → Numbers R e cells edges b → length (R .widths) ≤ mostCells → (e .opened ≤ mostCells) × (e .settled ≤ mostCells)
-  left-within b n few = (
-    omega (arith, n .opened-is, n .within),
+  pub left-within : (b : Meant) → Numbers R e cells edges b → Saves R cells edges → (e .opened ≤ mostCells) × (e .settled ≤ length (R .widths))
+  left-within b n v = (
+    omega (arith, n .opened-is, n .within, v .few),
     omega (arith, n .settled-is, n .within, proper-clumps R b (n .proper), length-append (handClump (b .hand)) (b .settled)),
   )
 
-  hand-by : (b : Meant) → Numbers R e cells edges b → e .held ≡ true → length (R .widths) ≤ mostCells → (hand : Hand) → b .hand ≡ hand
-      → (e .settled < mostCells) × (e .first ≤ e .opened)
-  hand-by b n t few empty q = absurd (hand-there b n t q)
-  hand-by b n t few (holding c) q = let hand = hand-is b n t few c q in (hand .0, hand .3)
+  hand-by : (b : Meant) → Numbers R e cells edges b → (e .first ≡ e .opened → ⊥) → (hand : Hand) → b .hand ≡ hand
+      → (e .settled < length (R .widths)) × (e .first ≤ e .opened)
+  hand-by b n t empty q = absurd (t (none-held b n q))
+  hand-by b n t (holding c) q =
+      let count : length (allClumps (holding c) (b .settled)) ≤ b .opened = rw q at (proper-clumps R b (n .proper)) in
+      (omega (arith, n .settled-is, n .within), omega (arith, some-held b n c q .0))
 
-  pub hand-within : (b : Meant) → Numbers R e cells edges b → e .held ≡ true → length (R .widths) ≤ mostCells → (e .settled < mostCells) × (e .first ≤ e .opened)
-  hand-within b n t few = hand-by b n t few (b .hand) refl
+  pub hand-within : (b : Meant) → Numbers R e cells edges b → (e .first ≡ e .opened → ⊥) → (e .settled < length (R .widths)) × (e .first ≤ e .opened)
+  hand-within b n t = hand-by b n t (b .hand) refl
 
--- ---- whether all is done
+  -- ---- whether all is done
 
-finished-by : (R : Row) (opened : ℕ) (hand : Hand) → not (inHand hand) && leb (length (R .widths)) opened ≡ finishedBy R opened hand
-unfolding finishedBy
-finished-by R opened empty = refl
-finished-by R opened (holding c) = refl
+  finished-by : (b : Meant) → Numbers R e cells edges b → (hand : Hand) → b .hand ≡ hand
+      → eqb (e .first) (e .opened) && leb (length (R .widths)) (e .opened) ≡ finishedBy R (b .opened) hand
+  unfolding finishedBy
+  finished-by b n empty q = rw (eq-eqb (e .first) (e .opened) (none-held b n q), n .opened-is) refl
+  finished-by b n (holding c) q = rw (ne-eqb (e .first) (e .opened) (λ z. omega (arith, some-held b n c q .0))) refl
 
-pub finished-is : (R : Row) (count : ℕ) (e : Bench) (cells edges : List ℕ) (b : Meant) → count ≡ length (R .widths)
-    → Numbers R e cells edges b → not (e .held) && leb count (e .opened) ≡ finished R b
-unfolding finished
-finished-is R count e cells edges b m n = rw (m, n .held-is, n .opened-is) (finished-by R (b .opened) (b .hand))
+  pub finished-is : (count : ℕ) (b : Meant) → count ≡ length (R .widths) → Numbers R e cells edges b
+      → eqb (e .first) (e .opened) && leb count (e .opened) ≡ finished R b
+  unfolding finished
+  finished-is count b m n = rw m (finished-by b n (b .hand) refl)

@@ -8,6 +8,7 @@ use native.Mathlib.Omega.{arith}
 use lib.ListN.{length, getD, length-append}
 use lib.IntN.{ℤ, pos, _+ℤ_, _-ℤ_, +ℤ-idr}
 use Rattle.numbers.specs.SignedLaws.{sub-parts, eq-parts}
+use Rattle.numbers.specs.Sums.{sumTo}
 use Rattle.rules.specs.Row.{Row}
 use Rattle.rules.specs.Changes.{Change, changesOn, cost, rise, fall}
 use Rattle.rules.specs.Steps.{Clump, single, moved, joined, standing}
@@ -56,11 +57,6 @@ made-joined R a j (suc k) =
     rw (add-suc j k, ← joined-assoc (made R a j) (made R (a + suc j) k) (single R (a + suc j + suc k)), made-joined R a j k, e) refl
 
 -- ---- what a clump made from the row holds
-
--- f 0 + .. + f (n - 1)
-unfoldable pub sumTo : (ℕ → ℕ) → ℕ → ℕ
-sumTo f zero = 0
-sumTo f (suc n) = sumTo f n + f n
 
 abbrev pub widthOf : Row → ℕ → ℕ
 widthOf R i = getD (R .widths) i 0

@@ -6,7 +6,9 @@ pub mod Sizes
 pub mod Cheapest
 pub mod Turn
 pub mod Best
+pub mod Reach
 pub mod Alike
+pub mod Stretches
 pub mod Joined
 pub mod Frame
 pub mod Runs

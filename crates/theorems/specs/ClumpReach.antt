@@ -11,7 +11,8 @@ use Rattle.rules.specs.Changes.{Change, cost, bestLeft, bestRight}
 use Rattle.rules.specs.Steps.{leftOf, rightOf}
 use Rattle.rules.specs.Bench.{made}
 use Rattle.slopes.specs.Best.{best-left-within, best-left-least, best-left-first, best-right-within, best-right-least, best-right-last}
-use Rattle.slopes.specs.Joined.{changesOf, offset, sumTo, made-cost}
+use Rattle.numbers.specs.Sums.{sumTo}
+use Rattle.slopes.specs.Joined.{changesOf, offset, made-cost}
 use Rattle.theory.specs.Sum.{over-none, over-one, over-join}
 use Rattle.theory.specs.Pulls.{together}
 use Rattle.theory.specs.Interval.{Best, best-left, best-right}

@@ -1,5 +1,4 @@
--- `head_of`: three numbers and a byte read, and two lists of zeros.
-use Rattle.benches.specs.Saved.{blank}
+-- `head_of`: three numbers and a byte read.
 use borrow.Author.Needs.{needs}
 use Rattle.benches.proofs.head_of.Statement.{statement}
 use Rattle.benches.proofs.head_of.Tie as tie
@@ -27,7 +26,6 @@ u32-at-requires : tie.Need-u32-at-requires
 u32-at-requires c κs = search needs
 
 returns : tie.Need-returns
-unfolding blank
 returns c = rw (c .before .before .before .u16-at .ensures, c .before .u16-at2 .ensures, c .u32-at .ensures)
 
 pub head-of-spec : {M : Type 1} → statement M

@@ -1,6 +1,6 @@
 -- `load`: the head, then the zero bytes, then the clumps; what is not in form is answered so as soon as it is seen.
 use mathlib.Core.Path.{_≡_, refl, sym, ap, _∙_}
-use Prim.Native.Nat.{_+_, _*_, _≤_}
+use Prim.Native.Nat.{ℕ, _+_, _*_, _≤_}
 use lib.ListN.{drop}
 use Rattle.rules.specs.Sizes.{headSize, partSize, benchSize}
 use Rattle.rules.specs.Bench.{savedHand, savedClumps, allZero}
@@ -26,25 +26,34 @@ head-fits-requires : tie.Need-head-fits-requires
 head-fits-requires c κs = search needs
 
 returns : tie.Need-returns
-returns c R t =
-    let e = c .before .before .head-of .ensures in
-    refused-head R (c .before .before .before .before .args .bench .now) (c .before .before .head-of .result) (ap (λ (x : Saved). x .formed) e)
-    (c .before .before .before .before .args .count) (t .many) (sym (c .before .head-fits .ensures) ∙ not-true _ (c .if1 .taken))
+returns c =
+    let start = c .before .before .before .before .before .before .before in
+    let head = c .before .before .head-of in (
+      λ R t.
+          refused-head R (start .args .bench .now) (start .args .cells .now) (start .args .edges .now) (head .result) (ap (λ (x : Saved). x .formed) (head .ensures))
+          (start .args .count) (t .many) (sym (c .before .head-fits .ensures) ∙ not-true _ (c .if1 .taken)),
+      (refl, refl),
+    )
+
+abbrev start-of : tie.Else1 → tie.Start
+start-of c = c .before .before .before .before .before .before .before
 
 -- the head is within its limits
-head-holds : (c : tie.Else1) → Head (c .before .before .before .before .args .count) (c .before .before .before .before .args .bench .now)
+head-holds : (c : tie.Else1) → Head (start-of c .args .count) (start-of c .args .bench .now)
 head-holds c = head-told _ _ (sym (c .before .head-fits .ensures) ∙ not-false _ (c .if1 .left))
 
-clumps-are : (c : tie.Else1) → c .before .before .head-of .result .clumps ≡ savedClumps (c .before .before .before .before .args .bench .now)
+clumps-are : (c : tie.Else1) → c .before .before .head-of .result .clumps ≡ savedClumps (start-of c .args .bench .now)
 clumps-are c = ap (λ (x : Saved). x .clumps) (c .before .before .head-of .ensures)
 
 room : (c : tie.Else1) → headSize + partSize * c .before .before .head-of .result .clumps ≤ benchSize
 room c = omega (arith, clumps-are c, head-holds c .few)
 
 zeros-are :
-    (c : tie.After-zero-from) → let s = c .before .before .before .before .before .args .bench .now in
+    (c : tie.After-zero-from) → let s = start-of (c .before) .args .bench .now in
     c .zero-from .result ≡ allZero (drop (headSize + partSize * savedClumps s) s)
-zeros-are c = c .zero-from .ensures ∙ rw (clumps-are (c .before))
+zeros-are c =
+    let s = start-of (c .before) .args .bench .now in
+    c .zero-from .ensures ∙ ap (λ (n : ℕ). allZero (drop (headSize + partSize * n) s)) (clumps-are (c .before))
 
 mul-zero-from : tie.Need-mul-zero-from
 mul-zero-from c = let r = room c in omega arith
@@ -56,24 +65,46 @@ zero-from-requires : tie.Need-zero-from-requires
 zero-from-requires c κs = let r = room c in (omega arith, omega arith)
 
 returns-2 : tie.Need-returns-2
-returns-2 c R t =
-    refused-zeros R (c .before .before .before .before .before .before .args .bench .now) (c .before .before .before .before .head-of .result)
-    (ap (λ (x : Saved). x .formed) (c .before .before .before .before .head-of .ensures))
-    (sym (zeros-are (c .before)) ∙ not-true _ (c .if2 .taken))
+returns-2 c =
+    let start = start-of (c .before .before) in
+    let head = c .before .before .before .before .head-of in (
+      λ R t.
+          refused-zeros R (start .args .bench .now) (start .args .cells .now) (start .args .edges .now) (head .result) (ap (λ (x : Saved). x .formed) (head .ensures))
+          (sym (zeros-are (c .before)) ∙ not-true _ (c .if2 .taken)),
+      (refl, refl),
+    )
 
 parts-of-requires : tie.Need-parts-of-requires
 parts-of-requires c κs =
-    let start = c .before .before .before .before .before .before in
-    let h = head-holds (c .before .before) in
-    rw (c .before .before .before .before .head-of .ensures)
-    (start .pre .0, (h .few, (omega (arith, h .within), (rw (hand-is (savedHand (start .args .bench .now)) (h .hand-bit)) (h .hand-clump), refl))))
+    let else1 = c .before .before .before .before in
+    let start = start-of else1 in
+    let h = head-holds else1 in
+    rw (else1 .before .before .head-of .ensures) (
+      start .pre .0 .0,
+      (
+        (h .few, rw (hand-is (savedHand (start .args .bench .now)) (h .hand-bit)) (h .hand-clump), refl),
+        (omega (arith, h .within), omega (arith, h .within), omega (arith, h .within), omega (arith, h .within)),
+      ),
+    )
+
+same-length : tie.Need-same-length
+same-length c = search needs
+
+same-length-2 : tie.Need-same-length-2
+same-length-2 c = search needs
 
 returns-3 : tie.Need-returns-3
-returns-3 c R t =
-    let start = c .before .before .before .before .before .before .before in
-    loaded R (start .args .bench .now) (start .args .width) (start .args .count) (start .args .before .now) t
-    (head-holds (c .before .before .before)) (sym (zeros-are (c .before .before)) ∙ not-false _ (c .before .if2 .left))
-    (c .before .before .before .before .before .head-of .result) (c .parts-of .result) (c .before .before .before .before .before .head-of .ensures) (c .parts-of .ensures)
+returns-3 c =
+    let parts = c .before .before .before .before in
+    let else1 = parts .before .before .before .before .before in
+    let start = start-of else1 in
+    let head = else1 .before .before .head-of in (
+      λ R t.
+          loaded R (start .args .bench .now) (start .args .width) (start .args .count) (start .args .starts .now) _ _ t
+          (head-holds else1) (sym (zeros-are (parts .before .before .before .before)) ∙ not-false _ (parts .before .before .before .if2 .left))
+          (head .result) (parts .parts-of .result) (head .ensures) (parts .parts-of .ensures .0),
+      parts .parts-of .ensures .1,
+    )
 
 pub load-spec : {M : Type 1} → statement M
 load-spec =
@@ -87,4 +118,6 @@ load-spec =
     zero-from-requires
     returns-2
     parts-of-requires
+    same-length
+    same-length-2
     returns-3)

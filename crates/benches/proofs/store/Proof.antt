@@ -29,8 +29,8 @@ store-head-requires c κs = search needs
 
 loop-holds : tie.Need-loop-holds Inv-loop μ-loop
 loop-holds c =
-    let start = c .before .before .before .before .before in
-    (omega arith, c .before .before .store-head .kept .0 ∙ start .pre .0, λ head tail h e. e ∙ sym (stored-none (start .args .cells .now) (start .args .edges .now) head tail))
+    let start = c .before .before .before .before .before .before .before in
+    (omega arith, c .before .before .store-head .kept .0 ∙ start .pre .0 .0, λ head tail h e. e ∙ sym (stored-none (start .args .cells .now) (start .args .edges .now) head tail))
 
 mul-at : tie.Need-mul-at Inv-loop μ-loop
 mul-at c = search needs
@@ -41,8 +41,8 @@ add-at c = search needs
 mul-put-u16 : tie.Need-mul-put-u16 Inv-loop μ-loop
 mul-put-u16 c = search needs
 
-element-copy-out-put-u16 : tie.Need-element-copy-out-put-u16 Inv-loop μ-loop
-element-copy-out-put-u16 c = search needs
+shared-slice-read-put-u16 : tie.Need-shared-slice-read-put-u16 Inv-loop μ-loop
+shared-slice-read-put-u16 c = search needs
 
 put-u16-requires : tie.Need-put-u16-requires Inv-loop μ-loop
 put-u16-requires c κs = omega (arith, c .before .before .before .loop .inv .1)
@@ -53,11 +53,12 @@ add-put-u32 c = search needs
 mul-put-u32 : tie.Need-mul-put-u32 Inv-loop μ-loop
 mul-put-u32 c = search needs
 
-element-copy-out-put-u32 : tie.Need-element-copy-out-put-u32 Inv-loop μ-loop
-element-copy-out-put-u32 c = search needs
+shared-slice-read-put-u32 : tie.Need-shared-slice-read-put-u32 Inv-loop μ-loop
+shared-slice-read-put-u32 c = search needs
 
 put-u32-requires : tie.Need-put-u32-requires Inv-loop μ-loop
-put-u32-requires c κs = omega (arith, c .before .before .before .before .put-u16 .kept .0 ∙ c .before .before .before .before .before .before .before .before .loop .inv .1)
+put-u32-requires c κs =
+    omega (arith, c .before .before .before .before .put-u16 .kept .0 ∙ c .before .before .before .before .before .before .before .before .loop .inv .1)
 
 add-k : tie.Need-add-k Inv-loop μ-loop
 add-k c = search needs
@@ -69,7 +70,7 @@ loop-again : tie.Need-loop-again Inv-loop μ-loop
 loop-again c =
     let mid = c .before .before .before .before .before .before .before in
     let l = mid .before .before .before .before .loop in
-    let start = mid .before .before .before .before .before .before .before .before .before .before in
+    let start = mid .before .before .before .before .before .before .before .before .before .before .before .before in
     let at = headSize + partSize * l .k in (
       omega arith,
       c .before .before .put-u32 .kept .0 ∙ mid .put-u16 .kept .0 ∙ l .inv .1,
@@ -81,11 +82,11 @@ loop-again c =
     )
 
 same-length : tie.Need-same-length Inv-loop μ-loop
-same-length c = c .before .loop .inv .1 ∙ sym (c .before .before .before .before .before .before .before .pre .0)
+same-length c = c .before .loop .inv .1 ∙ sym (c .before .before .before .before .before .before .before .before .before .pre .0 .0)
 
 returns : tie.Need-returns Inv-loop μ-loop
 returns c b w =
-    let start = c .before .before .before .before .before .before .before in
+    let start = c .before .before .before .before .before .before .before .before .before in
     let l = c .before .loop in
     let e : l .k ≡ start .args .clumps = omega arith in
     let head = headBytes (start .args .opened) (cond (start .args .held) 1 0) (start .args .clumps) (start .args .carried .0) in
@@ -105,11 +106,11 @@ store-spec =
     mul-at
     add-at
     mul-put-u16
-    element-copy-out-put-u16
+    shared-slice-read-put-u16
     put-u16-requires
     add-put-u32
     mul-put-u32
-    element-copy-out-put-u32
+    shared-slice-read-put-u32
     put-u32-requires
     add-k
     loop-less

@@ -1,6 +1,6 @@
 -- `first_overlap` meets its contract. The loop's invariant: what is still to be looked at, from cell i with the end of the one before it, answers the
 -- same as the whole placement.
-use Prim.Native.Nat.{ℕ, suc, _+_, _-_, _*_, _≤_, _<_}
+use Prim.Native.Nat.{ℕ, _+_, _-_, _*_, _≤_, _<_}
 use native.Mathlib.Numerals.{add-one}
 use native.Mathlib.Omega.{arith}
 use mathlib.Core.Path.{_≡_, refl, ap, sym, _∙_}
@@ -14,10 +14,6 @@ use Rattle.measuring.specs.Measures.{Widths}
 use Rattle.measuring.specs.Overlaps.{overlapAt, overlap-start, overlap-none, overlap-early, overlap-late, overlap-on}
 use Rattle.measuring.proofs.first_overlap.Statement.{statement}
 use Rattle.measuring.proofs.first_overlap.Tie as tie
-use Rattle.measuring.proofs.first_overlap.Reads as reads
-use Rattle.measuring.proofs.first_overlap.Lts as lts
-use Rattle.measuring.proofs.wide.Reads as wide-reads
-use Rattle.numbers.proofs.u32_at.Reads as u32-at-reads
 
 abbrev Inv-loop : tie.InvT-loop
 Inv-loop widths cells width placement limit end₀ i₀ end i =
@@ -50,17 +46,18 @@ answer W cells held s ws i end w e f =
 returns : tie.Need-returns Inv-loop μ-loop
 returns c =
     let l = c .before .before .before .before .loop in
-    let a = c .before .before .before .before .before .before .before .args in
+    let a = c .before .before .before .before .before .before .before .before .args in
     λ ws w.
     let h : l .i < length ws = omega (arith, w .count) in
     let x : u32At (a .placement .now) (4 * l .i) < l .end = omega (arith, c .before .before .u32-at .ensures, c .before .wide2 .ensures) in
-    answer (a .width) (a .cells) (a .widths .now) (a .placement .now) ws (l .i) (l .end) w (l .inv .2 ws w) (overlap-early (a .width) ws (a .placement .now) (l .i) (l .end) h x)
+    answer (a .width) (a .cells) (a .widths .now) (a .placement .now) ws (l .i) (l .end) w (l .inv .2 ws w)
+    (overlap-early (a .width) ws (a .placement .now) (l .i) (l .end) h x)
 
 mul-wide : tie.Need-mul-wide Inv-loop μ-loop
 mul-wide c = search needs
 
-element-copy-out-wide : tie.Need-element-copy-out-wide Inv-loop μ-loop
-element-copy-out-wide c = search needs
+shared-slice-read-wide : tie.Need-shared-slice-read-wide Inv-loop μ-loop
+shared-slice-read-wide c = search needs
 
 wide-requires-3 : tie.Need-wide-requires-3 Inv-loop μ-loop
 wide-requires-3 c κs = search needs
@@ -71,12 +68,13 @@ add-e c = search needs
 returns-2 : tie.Need-returns-2 Inv-loop μ-loop
 returns-2 c =
     let l = c .before .before .before .before .before .before .before .loop in
-    let a = c .before .before .before .before .before .before .before .before .before .before .args in
+    let a = c .before .before .before .before .before .before .before .before .before .before .before .args in
     λ ws w.
     let h : l .i < length ws = omega (arith, w .count) in
     let f : l .end ≤ u32At (a .placement .now) (4 * l .i) = omega arith in
-    let x : a .width < u32At (a .placement .now) (4 * l .i) + getD ws (l .i) 0 = omega (arith, w .each (l .i)) in
-    answer (a .width) (a .cells) (a .widths .now) (a .placement .now) ws (l .i) (l .end) w (l .inv .2 ws w) (overlap-late (a .width) ws (a .placement .now) (l .i) (l .end) h f x)
+    let x : a .width < u32At (a .placement .now) (4 * l .i) + getD ws (l .i) 0 = omega (arith, w .each (l .i) (omega arith)) in
+    answer (a .width) (a .cells) (a .widths .now) (a .placement .now) ws (l .i) (l .end) w (l .inv .2 ws w)
+    (overlap-late (a .width) ws (a .placement .now) (l .i) (l .end) h f x)
 
 add-i : tie.Need-add-i Inv-loop μ-loop
 add-i c = search needs
@@ -87,21 +85,23 @@ loop-less c = search needs
 loop-again : tie.Need-loop-again Inv-loop μ-loop
 loop-again c =
     let l = c .before .before .before .before .before .before .before .loop in
-    let a = c .before .before .before .before .before .before .before .before .before .before .args in (
+    let a = c .before .before .before .before .before .before .before .before .before .before .before .args in (
       search needs,
       search needs,
       λ ws w.
           let h : l .i < length ws = omega (arith, w .count) in
           let f : l .end ≤ u32At (a .placement .now) (4 * l .i) = omega arith in
-          let x : u32At (a .placement .now) (4 * l .i) + getD ws (l .i) 0 ≤ a .width = omega (arith, w .each (l .i)) in
-          let e : c .before .before .before .before .wide2 .result + c .before .wide3 .result ≡ u32At (a .placement .now) (4 * l .i) + getD ws (l .i) 0 = omega (arith, w .each (l .i)) in
+          let x : u32At (a .placement .now) (4 * l .i) + getD ws (l .i) 0 ≤ a .width = omega (arith, w .each (l .i) (omega arith)) in
+          let p = c .before .before .before .before .wide2 .result in
+          let e : p + c .before .wide3 .result ≡ u32At (a .placement .now) (4 * l .i) + getD ws (l .i) 0 =
+          omega (arith, w .each (l .i) (omega arith)) in
           rw (add-one, e) (sym (overlap-on (a .width) ws (a .placement .now) (l .i) (l .end) h f x) ∙ l .inv .2 ws w),
     )
 
 returns-3 : tie.Need-returns-3 Inv-loop μ-loop
 returns-3 c =
     let l = c .before .loop in
-    let a = c .before .before .before .before .args in
+    let a = c .before .before .before .before .before .args in
     λ ws w.
     let e : l .i ≡ length ws = omega (arith, w .count) in
     let n : overlapAt (a .width) ws (a .placement .now) (l .i) (l .end) ≡ l .i = rw e (overlap-none (a .width) ws (a .placement .now) (l .end)) in
@@ -121,7 +121,7 @@ first-overlap-spec =
     wide-requires-2
     returns
     mul-wide
-    element-copy-out-wide
+    shared-slice-read-wide
     wide-requires-3
     add-e
     returns-2

@@ -29,29 +29,29 @@ abbrev μ-loop : tie.MeasureT-loop
 loop-holds : tie.Need-loop-holds Inv-loop μ-loop
 unfolding total packed
 loop-holds c =
-    let a = c .before .args in
+    let a = c .before .before .args in
     let none : a .first - a .first ≡ 0 = omega arith in
-    (omega arith, omega (arith, c .before .pre .order), refl, rw none (omega arith), rw none (sym (over-none (a .placement .now) (a .first))))
+    (omega arith, omega (arith, c .before .before .pre .order), refl, rw none (omega arith), rw none (sym (over-none (a .placement .now) (a .first))))
 
 mul-put-u32 : tie.Need-mul-put-u32 Inv-loop μ-loop
-mul-put-u32 c = omega (arith, c .before .before .before .before .pre .few)
+mul-put-u32 c = omega (arith, c .before .before .before .before .before .pre .few)
 
 put-u32-requires : tie.Need-put-u32-requires Inv-loop μ-loop
-put-u32-requires c κs = omega (arith, c .before .before .before .before .pre .room, c .before .before .loop .inv .2)
+put-u32-requires c κs = omega (arith, c .before .before .before .before .before .pre .room, c .before .before .loop .inv .2)
 
 mul-x : tie.Need-mul-x Inv-loop μ-loop
 mul-x c = search needs
 
-element-copy-out-x : tie.Need-element-copy-out-x Inv-loop μ-loop
-element-copy-out-x c = omega (arith, c .before .before .before .before .before .before .before .pre .few)
+shared-slice-read-x : tie.Need-shared-slice-read-x Inv-loop μ-loop
+shared-slice-read-x c = omega (arith, c .before .before .before .before .before .before .before .before .before .pre .long)
 
 -- where the cell after this one starts
-next-start : (c : tie.After-x Inv-loop μ-loop)
-    → let a = c .before .before .before .before .before .before .before .before .args in
+next-start : (c : tie.After-shared-slice-known2 Inv-loop μ-loop)
+    → let a = c .before .before .before .before .before .before .before .before .before .args in
     let l = c .before .before .before .before .before .before .loop in
     l .x + getD (a .widths .now) (l .i) 0 ≡ a .edge + total (take (suc (l .i - a .first)) (drop (a .first) (a .widths .now)))
 next-start c =
-    let a = c .before .before .before .before .before .before .before .before .args in
+    let a = c .before .before .before .before .before .before .before .before .before .args in
     let l = c .before .before .before .before .before .before .loop in
     let n = l .i - a .first in
     let at : a .first + n ≡ l .i = omega (arith, l .inv .0) in
@@ -59,7 +59,7 @@ next-start c =
 
 add-x : tie.Need-add-x Inv-loop μ-loop
 add-x c =
-    let s = c .before .before .before .before .before .before .before .before in
+    let s = c .before .before .before .before .before .before .before .before .before in
     let l = c .before .before .before .before .before .before .loop in
     let a = s .args in
     let n = l .i - a .first in
@@ -74,7 +74,7 @@ loop-less c = search needs
 
 loop-again : tie.Need-loop-again Inv-loop μ-loop
 loop-again c =
-    let s = c .before .before .before .before .before .before .before .before in
+    let s = c .before .before .before .before .before .before .before .before .before in
     let l = c .before .before .before .before .before .before .loop in
     let u = c .before .before .before in
     let t = c .before .before .before .before .before .loop-test .taken in
@@ -91,7 +91,7 @@ loop-again c =
           (u .put-u32 .ensures
           ∙ ap (λ (b : List ℕ). put32 (4 * l .i) (l .x) b) (l .inv .4)
           ∙ ap (λ (x : ℕ). put32 (4 * l .i) x (over (a .placement .now) (a .first) (packed (a .edge) n (drop (a .first) ws)))) (l .inv .3)
-          ∙ rw at at (put-cell ws (a .placement .now) (a .first) (a .edge) n (omega (arith, s .pre .few, s .pre .long)) (omega (arith, s .pre .room)))),
+          ∙ rw at at (put-cell ws (a .placement .now) (a .first) (a .edge) n (omega (arith, s .pre .long)) (omega (arith, s .pre .room)))),
     )
 
 same-length : tie.Need-same-length Inv-loop μ-loop
@@ -99,7 +99,7 @@ same-length c = c .before .loop .inv .2
 
 returns : tie.Need-returns Inv-loop μ-loop
 returns c =
-    let a = c .before .before .before .args in
+    let a = c .before .before .before .before .args in
     let l = c .before .loop in
     let e : l .i ≡ a .end = omega arith in
     rw (← e) (l .inv .4)
@@ -114,7 +114,7 @@ put-clump-spec =
     mul-put-u32
     put-u32-requires
     mul-x
-    element-copy-out-x
+    shared-slice-read-x
     add-x
     add-i
     loop-less

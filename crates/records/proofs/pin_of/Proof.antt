@@ -14,8 +14,8 @@ returns-2 c = simp (lt-ltb _ _ (c .before .if1 .left), le-ltb _ _ (c .if2 .taken
 mul-if3 : tie.Need-mul-if3
 mul-if3 c = search needs
 
-element-copy-out-if3 : tie.Need-element-copy-out-if3
-element-copy-out-if3 c = search needs
+shared-slice-read-if3 : tie.Need-shared-slice-read-if3
+shared-slice-read-if3 c = search needs
 
 returns-3 : tie.Need-returns-3
 returns-3 c = simp (lt-ltb _ _ (c .before .before .before .if1 .left), lt-ltb _ _ (c .before .before .if2 .left), lt-leb _ _ (c .if3 .taken))
@@ -25,4 +25,4 @@ returns-4 c = simp (lt-ltb _ _ (c .before .before .before .if1 .left), lt-ltb _ 
 
 pub pin-of-spec : {M : Type 1} → statement M
 pin-of-spec =
-    tie.close (tie.spec returns returns-2 mul-if3 element-copy-out-if3 returns-3 returns-4)
+    tie.close (tie.spec returns returns-2 mul-if3 shared-slice-read-if3 returns-3 returns-4)

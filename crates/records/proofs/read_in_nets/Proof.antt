@@ -10,11 +10,11 @@ use Rattle.records.proofs.read_in_nets.Tie as tie
 
 -- the record by the mark in hand
 by : (c : tie.After-mark-of) (r : Reading) (m : Mark) → c .mark-of .result ≡ m
-    → marked r m (c .before .before .before .before .args .s .now) ≡ recordAt r (c .before .before .before .before .args .s .now)
-by c r m e = by-mark r (c .before .before .before .before .args .s .now) m (c .before .before .if1 .left) (sym e ∙ c .mark-of .ensures ∙ ap markOf (c .before .u16-at .ensures))
+    → marked r m (c .before .before .before .before .before .args .s .now) ≡ recordAt r (c .before .before .before .before .before .args .s .now)
+by c r m e = by-mark r (c .before .before .before .before .before .args .s .now) m (c .before .before .if1 .left) (sym e ∙ c .mark-of .ensures ∙ ap markOf (c .before .u16-at .ensures))
 
 returns : tie.Need-returns
-returns c = λ r h a. no-mark r (c .before .before .args .s .now) (c .if1 .taken)
+returns c = λ r h a. no-mark r (c .before .before .before .args .s .now) (c .if1 .taken)
 
 u16-at-requires : tie.Need-u16-at-requires
 u16-at-requires c κs = search needs
@@ -68,12 +68,12 @@ returns-5 : tie.Need-returns-5
 returns-5 c = λ r h a. c .read-fixed .ensures _ r h ∙ by (c .before .before .before) r FixedMark (c .before .enum-told4 .given .1)
 
 returns-6 : tie.Need-returns-6
-returns-6 c = λ r h a. c .read-pin .ensures r h ∙ by (c .before .before .before) r PinMark (c .before .enum-told5 .given .1)
+returns-6 c = λ r h a. c .read-pin .ensures r h a ∙ by (c .before .before .before) r PinMark (c .before .enum-told5 .given .1)
 
 returns-7 : tie.Need-returns-7
 returns-7 c = λ r h a.
     let m = c .before .before .before in
-    c .read-end .ensures _ r h a (m .before .before .before .before .args .s .now) (m .before .before .if1 .left) ∙ by m r EndMark (c .before .enum-told6 .given .1)
+    c .read-end .ensures _ r h a (m .before .before .before .before .before .args .s .now) (m .before .before .if1 .left) ∙ by m r EndMark (c .before .enum-told6 .given .1)
 
 returns-8 : tie.Need-returns-8
 returns-8 c = λ r h a. wrong-mark r _ NoMark (never-no-mark r) ∙ by (c .before .before) r NoMark (c .enum-told7 .given .1)

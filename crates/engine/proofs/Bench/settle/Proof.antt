@@ -1,8 +1,5 @@
--- `settle`: each list has the clump's number at its place.
+-- `settle`: each list takes one number more, in the place of the clump.
 use mathlib.Core.Path.{refl}
-use mir.Syntax.{w64}
-use mir.Val.{SFits}
-use mir.Facts.{toZ-ofZ}
 use borrow.Author.Needs.{needs}
 use Rattle.engine.proofs.Bench.settle.Statement.{statement}
 use Rattle.engine.proofs.Bench.settle.Tie as tie
@@ -16,40 +13,56 @@ cast-cells c = search needs
 mul-cells : tie.Need-mul-cells
 mul-cells c = search needs
 
-element-write-cells : tie.Need-element-write-cells
-element-write-cells c = search needs
+slice-write-cells : tie.Need-slice-write-cells
+slice-write-cells c = search needs
 
 mul-edges : tie.Need-mul-edges
 mul-edges c = search needs
 
-element-write-edges : tie.Need-element-write-edges
-element-write-edges c = search needs
+shared-slice-read-edges : tie.Need-shared-slice-read-edges
+shared-slice-read-edges c = search needs
 
-mul-froms : tie.Need-mul-froms
-mul-froms c = search needs
+add-edges : tie.Need-add-edges
+add-edges c = search needs
 
-element-write-froms : tie.Need-element-write-froms
-element-write-froms c = search needs
+mul-edges-2 : tie.Need-mul-edges-2
+mul-edges-2 c = search needs
 
-mul-tos : tie.Need-mul-tos
-mul-tos c = search needs
+slice-write-edges : tie.Need-slice-write-edges
+slice-write-edges c = search needs
 
-element-write-tos : tie.Need-element-write-tos
-element-write-tos c = search needs
+cast-sizes : tie.Need-cast-sizes
+cast-sizes c = search needs
 
-mul-sum : tie.Need-mul-sum
-mul-sum c = search needs
+mul-sizes : tie.Need-mul-sizes
+mul-sizes c = search needs
 
-element-set-from-sum : tie.Need-element-set-from-sum
-element-set-from-sum c = search needs
+slice-write-sizes : tie.Need-slice-write-sizes
+slice-write-sizes c = search needs
 
-add-t14 : tie.Need-add-t14
-add-t14 c = search needs
+mul-sums : tie.Need-mul-sums
+mul-sums c = search needs
+
+slice-write-sums : tie.Need-slice-write-sums
+slice-write-sums c = search needs
+
+add-t18 : tie.Need-add-t18
+add-t18 c = search needs
+
+same-length : tie.Need-same-length
+same-length c = search needs
+
+same-length-2 : tie.Need-same-length-2
+same-length-2 c = search needs
+
+same-length-3 : tie.Need-same-length-3
+same-length-3 c = search needs
+
+same-length-4 : tie.Need-same-length-4
+same-length-4 c = search needs
 
 returns : tie.Need-returns
-returns c =
-    let f : SFits w64 (c .before .before .before .before .args .self .hand .sum) = search needs in
-    (refl, (refl, (refl, rw (toZ-ofZ {w = w64} f) refl)))
+returns c = (refl, (refl, (refl, (refl, refl))))
 
 pub settle-spec : {M : Type 1} → statement M
 settle-spec =
@@ -58,14 +71,20 @@ settle-spec =
     sub-count
     cast-cells
     mul-cells
-    element-write-cells
+    slice-write-cells
     mul-edges
-    element-write-edges
-    mul-froms
-    element-write-froms
-    mul-tos
-    element-write-tos
-    mul-sum
-    element-set-from-sum
-    add-t14
+    shared-slice-read-edges
+    add-edges
+    mul-edges-2
+    slice-write-edges
+    cast-sizes
+    mul-sizes
+    slice-write-sizes
+    mul-sums
+    slice-write-sums
+    add-t18
+    same-length
+    same-length-2
+    same-length-3
+    same-length-4
     returns)
