@@ -18,7 +18,7 @@ use Rattle.slopes.specs.Apart.{apart_end, apart_rest, proper_clumps}
 use Rattle.benches.specs.Saved.{head_bytes}
 use Rattle.benches.specs.ZeroLaws.{all_zero_lem}
 use Rattle.benches.specs.FormLaws.{in_form_lem, settled_are, hand_edge_is}
-use Rattle.benches.specs.StoreLaws.{head_length, parts_length, parts_snoc, bench-bytes}
+use Rattle.benches.specs.StoreLaws.{head_length, parts_length, parts_snoc, bench_bytes_lem}
 
 -- ---- the bytes by all clumps, the last one first
 
@@ -26,16 +26,16 @@ clumps_reversed : (hand : Hand) (settled : List Clump) → reverse settled ++ ha
 clumps_reversed empty settled = append-nil (reverse settled)
 clumps_reversed (holding c) settled = sym (reverse-cons c settled)
 
-pub bytes-by-all :
+pub bytes_by_all :
     (b : Bench) → let all = all_clumps b.hand b.settled in
     bench_bytes b ≡ head_bytes b.opened (hand_byte b.hand) (length all) b.carried ++ (parts (reverse all) ++ replicate (part_size * most_cells - part_size * length all) 0)
 unfolding clumps_of
-bytes-by-all b =
+bytes_by_all b =
     let all = all_clumps b.hand b.settled in
     let same : clumps_of b ≡ reverse all = clumps_reversed b.hand b.settled in
     let head : ℕ → List ℕ = λ n. head_bytes b.opened (hand_byte b.hand) n b.carried in
     let zeros : List ℕ = replicate (part_size * most_cells - part_size * length all) 0 in
-    bench-bytes b
+    bench_bytes_lem b
     ∙ ap₂ (λ (n : ℕ) (cs : List Clump). (head n ++ parts cs) ++ replicate (part_size * most_cells - part_size * n) 0) (ap length same ∙ length-reverse all) same
     ∙ append_assoc (head (length all)) (parts (reverse all)) zeros
 
@@ -50,13 +50,13 @@ apart_edges : (width limit : ℕ) (cs : List Clump) → apart width cs ≡ true 
 apart_edges width limit [] h l = tt
 apart_edges width limit (c ∷ cs) h l = (omega (arith, apart_end width (c ∷ cs) h), apart_edges width limit cs (apart_rest width c cs h) l)
 
-says-each :
+says_each :
     (s head : List ℕ) → length head ≡ head_size →
     (cs : List Clump) (rest : List ℕ) → s ≡ head ++ (parts (reverse cs) ++ rest) →
     cells_in cs < 65536 → EdgesBelow 4294967296 cs → Says s cs
 unfolding cells_in
-says-each s head h [] rest e small edges = tt
-says-each s head h (c ∷ cs) rest e small edges =
+says_each s head h [] rest e small edges = tt
+says_each s head h (c ∷ cs) rest e small edges =
     let before = parts (reverse cs) in
     let cells = u16_bytes c.cells in
     let edge = u32_bytes c.edge in
@@ -69,7 +69,7 @@ says-each s head h (c ∷ cs) rest e small edges =
       ap₂ (λ (l : List ℕ) (k : ℕ). u16_at l k) at_cells long ∙ u16_read_after (head ++ before) c.cells (edge ++ rest) (omega arith),
       (
         ap₂ (λ (l : List ℕ) (k : ℕ). u32_at l k) at_edge longer ∙ u32_read_after ((head ++ before) ++ cells) c.edge rest edges.0,
-        says-each s head h cs ((cells ++ edge) ++ rest) split (omega arith) edges.1,
+        says_each s head h cs ((cells ++ edge) ++ rest) split (omega arith) edges.1,
       ),
     )
 
@@ -114,13 +114,13 @@ module _
     unfolding head_bytes
     said =
         let zeros : List ℕ = replicate (part_size * most_cells - part_size * length all) 0 in
-        rw (bytes-by-all b)
+        rw (bytes_by_all b)
         (record {
           say_opened = u16_read b.opened [] (omega arith);
           say_hand = refl;
           say_clumps = u16_read (length all) [] (omega (arith, few));
           say_carried = u32_read b.carried [] carried;
-          say_each = says-each (head ++ (parts (reverse all) ++ zeros)) head refl all zeros refl (omega (arith, proper.all_cells)) (edges_below b.hand proper.hand_edge);
+          say_each = says_each (head ++ (parts (reverse all) ++ zeros)) head refl all zeros refl (omega (arith, proper.all_cells)) (edges_below b.hand proper.hand_edge);
         })
 
     pub back_and_there : bench_of R (bench_bytes b) ≡ b
@@ -131,7 +131,7 @@ module _
     pub bytes_length : length (bench_bytes b) ≡ bench_size
     bytes_length =
         let zeros : List ℕ = replicate (part_size * most_cells - part_size * length all) 0 in
-        rw (bytes-by-all b)
+        rw (bytes_by_all b)
         (omega (
           arith,
           few,
@@ -154,13 +154,13 @@ module _
           parts_length (reverse all),
           length-reverse all,
         ) in
-        ap (λ (l : List ℕ). all_zero (drop (head_size + part_size * length all) l)) (bytes-by-all b ∙ sym (append_assoc head (parts (reverse all)) zeros))
+        ap (λ (l : List ℕ). all_zero (drop (head_size + part_size * length all) l)) (bytes_by_all b ∙ sym (append_assoc head (parts (reverse all)) zeros))
         ∙ ap all_zero (drop_at (head ++ parts (reverse all)) zeros (head_size + part_size * length all) front)
         ∙ all_zero_lem (part_size * most_cells - part_size * length all)
 
     marks : (get_or (bench_bytes b) 0 0 ≡ 0x42) × (get_or (bench_bytes b) 1 0 ≡ 0x4e)
     unfolding head_bytes
-    marks = rw (bytes-by-all b) (refl, refl)
+    marks = rw (bytes_by_all b) (refl, refl)
 
     hand_bit : (hand : Hand) → (hand_byte hand ≤ 1) × (hand_byte hand ≤ length (all_clumps hand b.settled))
     hand_bit empty = (omega arith, omega arith)

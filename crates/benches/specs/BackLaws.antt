@@ -15,8 +15,8 @@ use Rattle.rules.specs.Bench.{hand_byte, clumps_of, parts, bench_bytes, saved_op
 use Rattle.benches.specs.Saved.{head_bytes}
 use Rattle.benches.specs.ZeroLaws.{zeros_are}
 use Rattle.benches.specs.MadeLaws.{clump_cells, clump_edge}
-use Rattle.benches.specs.FormLaws.{Formed, formed, by_hand, bench-with, bench-without}
-use Rattle.benches.specs.StoreLaws.{parts_snoc, bench-bytes}
+use Rattle.benches.specs.FormLaws.{Formed, formed, by_hand, bench_with, bench_without}
+use Rattle.benches.specs.StoreLaws.{parts_snoc, bench_bytes_lem}
 
 -- ---- what saved bytes stand for
 
@@ -29,20 +29,20 @@ module _ (R : Row) (s : List ℕ) (f : Formed R s) where
   pub bench_opened : (bench_of R s).opened ≡ saved_opened s
   bench_opened =
       by_hand R s f.hand_bit
-      (λ e. ap (λ (b : Bench). b.opened) (bench-without R s e))
-      (λ e. ap (λ (b : Bench). b.opened) (bench-with R s e (omega (arith, f.hand_clump))))
+      (λ e. ap (λ (b : Bench). b.opened) (bench_without R s e))
+      (λ e. ap (λ (b : Bench). b.opened) (bench_with R s e (omega (arith, f.hand_clump))))
 
   pub bench_carried : (bench_of R s).carried ≡ saved_carried s
   bench_carried =
       by_hand R s f.hand_bit
-      (λ e. ap (λ (b : Bench). b.carried) (bench-without R s e))
-      (λ e. ap (λ (b : Bench). b.carried) (bench-with R s e (omega (arith, f.hand_clump))))
+      (λ e. ap (λ (b : Bench). b.carried) (bench_without R s e))
+      (λ e. ap (λ (b : Bench). b.carried) (bench_with R s e (omega (arith, f.hand_clump))))
 
   pub bench_hand : hand_byte (bench_of R s).hand ≡ saved_hand s
   bench_hand =
       by_hand R s f.hand_bit
-      (λ e. ap (λ (b : Bench). hand_byte b.hand) (bench-without R s e) ∙ sym e)
-      (λ e. ap (λ (b : Bench). hand_byte b.hand) (bench-with R s e (omega (arith, f.hand_clump))) ∙ sym e)
+      (λ e. ap (λ (b : Bench). hand_byte b.hand) (bench_without R s e) ∙ sym e)
+      (λ e. ap (λ (b : Bench). hand_byte b.hand) (bench_with R s e (omega (arith, f.hand_clump))) ∙ sym e)
 
   last_clump : (n : ℕ) → 1 ≤ n → reverse (clumps_to R s (n - 1)) ++ (clump_at R s (n - 1) ∷ []) ≡ reverse (clumps_to R s n)
   unfolding clumps_to
@@ -55,8 +55,8 @@ module _ (R : Row) (s : List ℕ) (f : Formed R s) where
   unfolding clumps_of
   bench_clumps =
       by_hand R s f.hand_bit
-      (λ e. ap clumps_of (bench-without R s e) ∙ append-nil (reverse (clumps_to R s (saved_clumps s))))
-      (λ e. ap clumps_of (bench-with R s e (omega (arith, f.hand_clump))) ∙ last_clump (saved_clumps s) (omega (arith, f.hand_clump)))
+      (λ e. ap clumps_of (bench_without R s e) ∙ append-nil (reverse (clumps_to R s (saved_clumps s))))
+      (λ e. ap clumps_of (bench_with R s e (omega (arith, f.hand_clump))) ∙ last_clump (saved_clumps s) (omega (arith, f.hand_clump)))
 
   pub bench_count : length (clumps_of (bench_of R s)) ≡ saved_clumps s
   bench_count = ap length bench_clumps ∙ length-reverse (clumps_to R s (saved_clumps s)) ∙ clumps_count R s (saved_clumps s)
@@ -83,12 +83,12 @@ module _ (s : List ℕ) (small : (i : ℕ) → get_or s i 0 < 256) where
         ∙ ap (λ (l : List ℕ). get_or s 0 0 ∷ l) (sym (drop-cons s 1 0 (omega arith)))
         ∙ sym (drop-cons s 0 0 (omega arith))
 
-    parts-piece :
+    parts_piece :
         (R : Row) (k : ℕ) → k ≤ most_cells → ((j : ℕ) → j < k → 1 ≤ saved_cells s j) →
         parts (reverse (clumps_to R s k)) ++ drop (head_size + part_size * k) s ≡ drop head_size s
     unfolding clumps_to parts
-    parts-piece R zero h all = refl
-    parts-piece R (suc k) h all =
+    parts_piece R zero h all = refl
+    parts_piece R (suc k) h all =
         let at = head_size + part_size * k in
         let next : head_size + part_size * suc k ≡ at + 2 + 4 = omega arith in
         let c = clump_at R s k in
@@ -97,13 +97,13 @@ module _ (s : List ℕ) (small : (i : ℕ) → get_or s i 0 < 256) where
         (append_assoc before (u16_bytes (saved_cells s k) ++ u32_bytes (saved_edge s k)) (drop (at + 2 + 4) s)
         ∙ ap (λ (l : List ℕ). before ++ (u16_bytes (saved_cells s k) ++ l)) (u32_piece (at + 2) (omega arith))
         ∙ ap (λ (l : List ℕ). before ++ l) (u16_piece at (omega arith))
-        ∙ parts-piece R k (omega arith) (λ j l. all j (omega arith)))
+        ∙ parts_piece R k (omega arith) (λ j l. all j (omega arith)))
 
     -- past the clumps there are only zeros
-    zeros-piece :
+    zeros_piece :
         (n : ℕ) → all_zero (drop (head_size + part_size * n) s) ≡ true → n ≤ most_cells →
         replicate (part_size * most_cells - part_size * n) 0 ≡ drop (head_size + part_size * n) s
-    zeros-piece n z h =
+    zeros_piece n z h =
         let long : length (drop (head_size + part_size * n) s) ≡ part_size * most_cells - part_size * n = omega (arith, length-drop (head_size + part_size * n) s) in
         sym (zeros_are (drop (head_size + part_size * n) s) z ∙ ap (λ (k : ℕ). replicate k 0) long)
 
@@ -118,11 +118,11 @@ module _ (s : List ℕ) (small : (i : ℕ) → get_or s i 0 < 256) where
         let n = saved_clumps s in
         let head = head_bytes (saved_opened s) (saved_hand s) n (saved_carried s) in
         let clumps = parts (reverse (clumps_to R s n)) in
-        bench-bytes (bench_of R s)
+        bench_bytes_lem (bench_of R s)
         ∙ rw (bench_opened R s f, bench_hand R s f, bench_carried R s f, bench_count R s f, bench_clumps R s f)
         (append_assoc head clumps (replicate (part_size * most_cells - part_size * n) 0)
-        ∙ ap (λ (l : List ℕ). head ++ (clumps ++ l)) (zeros-piece n f.zeros f.few)
-        ∙ ap (λ (l : List ℕ). head ++ l) (parts-piece R n f.few f.have_cells)
+        ∙ ap (λ (l : List ℕ). head ++ (clumps ++ l)) (zeros_piece n f.zeros f.few)
+        ∙ ap (λ (l : List ℕ). head ++ l) (parts_piece R n f.few f.have_cells)
         ∙ marked (saved_opened s) (saved_hand s) n (saved_carried s) (drop head_size s) f.mark_b f.mark_n
         ∙ head_piece)
 

@@ -77,18 +77,18 @@ module _ (R : Row) (s : List ℕ) where
       ap (λ (k : ℕ). holding (clump_at R s k)) e
 
   -- nothing in hand: all clumps are settled
-  pub bench-without :
+  pub bench_without :
       saved_hand s ≡ 0 →
       bench_of R s ≡ record { opened = saved_opened s; hand = empty; settled = clumps_to R s (saved_clumps s); carried = saved_carried s }
   unfolding bench_of
-  bench-without e = rw e
+  bench_without e = rw e
 
   -- the last clump in hand, the others are settled
-  pub bench-with :
+  pub bench_with :
       saved_hand s ≡ 1 → 1 ≤ saved_clumps s →
       bench_of R s ≡ record { opened = saved_opened s; hand = holding (clump_at R s (saved_clumps s - 1)); settled = clumps_to R s (saved_clumps s - 1); carried = saved_carried s }
   unfolding bench_of
-  bench-with e h = rw (e, hand_of_lem (saved_clumps s) h, rest_of_lem (saved_clumps s) h)
+  bench_with e h = rw (e, hand_of_lem (saved_clumps s) h, rest_of_lem (saved_clumps s) h)
 
   -- by the byte that says whether there is one in hand
   pub by_hand : {X : Type 0} → saved_hand s ≤ 1 → (saved_hand s ≡ 0 → X) → (saved_hand s ≡ 1 → X) → X
@@ -97,14 +97,14 @@ module _ (R : Row) (s : List ℕ) where
   pub settled_are : saved_hand s ≤ 1 → saved_hand s ≤ saved_clumps s → (bench_of R s).settled ≡ clumps_to R s (settled_of s)
   settled_are h g =
       by_hand h
-      (λ e. ap (λ (b : Bench). b.settled) (bench-without e) ∙ rw (e, sub-zero))
-      (λ e. ap (λ (b : Bench). b.settled) (bench-with e (omega arith)) ∙ rw e)
+      (λ e. ap (λ (b : Bench). b.settled) (bench_without e) ∙ rw (e, sub-zero))
+      (λ e. ap (λ (b : Bench). b.settled) (bench_with e (omega arith)) ∙ rw e)
 
   pub hand_edge_is : saved_hand s ≡ 1 → 1 ≤ saved_clumps s → hand_edge (bench_of R s).hand ≡ saved_edge s (settled_of s)
-  hand_edge_is e h = ap (λ (b : Bench). hand_edge b.hand) (bench-with e h) ∙ clump_edge R s (saved_clumps s - 1) ∙ rw e
+  hand_edge_is e h = ap (λ (b : Bench). hand_edge b.hand) (bench_with e h) ∙ clump_edge R s (saved_clumps s - 1) ∙ rw e
 
   no_hand_edge : saved_hand s ≡ 0 → hand_edge (bench_of R s).hand ≡ 0
-  no_hand_edge e = ap (λ (b : Bench). hand_edge b.hand) (bench-without e)
+  no_hand_edge e = ap (λ (b : Bench). hand_edge b.hand) (bench_without e)
 
   -- ---- all conditions together
 

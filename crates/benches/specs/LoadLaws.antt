@@ -50,8 +50,8 @@ module _
         (λ both_true.
         let two = both_hold clumps_fit cells_add both_true in
         in_form_lem R s (formed_by_tests R s width count ends t h zeros two.0 (eqb-true _ _ two.1)))
-        (λ yes-form.
-        let f = formed R s yes-form in
+        (λ yes_form.
+        let f = formed R s yes_form in
         both clumps_fit cells_add (parts_fit_lem R s width count ends t f) (eq-eqb _ _ f.add_up))
 
     pub loaded : (head r : Saved) → head ≡ head_of s → Parted head s width ends cells edges r → Loaded R s cells edges r
@@ -60,13 +60,13 @@ module _
         let same : r.formed ≡ in_form R s = q.form ∙ rw (hand_is (saved_hand s) h.hand_bit) tests_are in
         record {
           form = same;
-          tells = λ yes-form.
+          tells = λ yes_form.
               record {
                 opened = q.opened;
                 held = q.held;
                 clumps = q.clumps;
                 carried = rw q.carried;
-                cells_are = q.cells_are (same ∙ yes-form);
-                edges_are = q.edges_are (same ∙ yes-form);
+                cells_are = q.cells_are (same ∙ yes_form);
+                edges_are = q.edges_are (same ∙ yes_form);
               };
         }

@@ -71,11 +71,11 @@ module _ (s : List ℕ) (width : ℕ) (ends : List ℕ) (head : Saved) (settled 
       here_is = rw (next_is, p.first_is, p.last_is, p.left_is, e)
 
       -- it fits: one clump more
-      pub passed-more :
+      pub passed_more :
           k < head.clumps → head.opened ≤ length cells → head.opened ≤ length edges → here ≡ true →
           Passed s width ends head settled (set cells k count) (set edges k edge) first edge (first + count) (k + 1)
       unfolding parts_fit first_before edge_before
-      passed-more l room-cells room-edges fits =
+      passed_more l room_cells room_edges fits =
           let two = both_hold (cells_fit first (first + count) head.opened) edge_here fits in
           let next = both_hold (ltb first (first + count)) (leb (first + count) head.opened) two.0 in
           let some : first < first + count = ltb-true first (first + count) next.0 in
@@ -94,9 +94,9 @@ module _ (s : List ℕ) (width : ℕ) (ends : List ℕ) (head : Saved) (settled 
           }
 
       -- it does not fit: not in form
-      pub passed-stop :
+      pub passed_stop :
           settled ≡ head.clumps - cond head.held 1 0 → k < head.clumps → head.formed ≡ false → here ≡ false → Parted head s width ends cells edges head
-      passed-stop all l not_yet stops =
+      passed_stop all l not_yet stops =
           let none : parts_fit ends s width head.opened settled head.clumps ≡ false =
           fails _ (λ h. clash (part_fits ends s width head.opened settled k) (fits_each ends s width head.opened settled head.clumps h k l) (sym here_is ∙ stops)) in
           record {
@@ -110,7 +110,7 @@ module _ (s : List ℕ) (width : ℕ) (ends : List ℕ) (head : Saved) (settled 
           }
 
     -- all fit: in form where their cells add to those opened
-    pub passed-all :
+    pub passed_all :
         settled ≡ head.clumps - cond head.held 1 0 → k ≡ head.clumps →
         Parted head s width ends cells edges
         (record {
@@ -120,7 +120,7 @@ module _ (s : List ℕ) (width : ℕ) (ends : List ℕ) (head : Saved) (settled 
           clumps = head.clumps;
           carried = head.carried;
         })
-    passed-all all e =
+    passed_all all e =
         let full : parts_fit ends s width head.opened settled head.clumps ≡ true = rw e at p.fit in
         let sum : first ≡ cells_before s head.clumps = rw e at p.first_is in
         record {

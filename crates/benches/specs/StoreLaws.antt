@@ -38,12 +38,12 @@ unfolding head_bytes
 head_length opened hand clumps carried = refl
 
 -- eleven bytes written over zeros
-pub head-stored :
+pub head_stored :
     (opened hand clumps carried : ℕ) →
     put32 7 carried (put16 5 clumps (set (put16 2 opened (set (set (replicate bench_size 0) 0 0x42) 1 0x4e)) 4 hand))
     ≡ head_bytes opened hand clumps carried ++ replicate (part_size * most_cells) 0
 unfolding head_bytes
-head-stored opened hand clumps carried = refl
+head_stored opened hand clumps carried = refl
 
 -- ---- the clumps
 
@@ -68,15 +68,15 @@ module _ (cells edges : List ℕ) where
   parts_to_length zero = refl
   parts_to_length (suc k) = omega (arith, length-append (parts_to cells edges k) (u16_bytes (get_or cells k 0) ++ u32_bytes (get_or edges k 0)), parts_to_length k)
 
-  pub parts-to-are :
+  pub parts_to_are :
       (cs : List Clump) (k : ℕ) → k ≤ length cs →
       ((i : ℕ) → i < k → get_or cells i 0 ≡ (get_or cs i none).cells) →
       ((i : ℕ) → i < k → get_or edges i 0 ≡ (get_or cs i none).edge) →
       parts_to cells edges k ≡ parts (take k cs)
   unfolding parts_to parts
-  parts-to-are cs zero h c e = refl
-  parts-to-are cs (suc k) h c e =
-      rw (take-suc cs k none h, parts_append, parts-to-are cs k (omega arith) (λ i l. c i (omega arith)) (λ i l. e i (omega arith)), c k (omega arith), e k (omega arith))
+  parts_to_are cs zero h c e = refl
+  parts_to_are cs (suc k) h c e =
+      rw (take-suc cs k none h, parts_append, parts_to_are cs k (omega arith) (λ i l. c i (omega arith)) (λ i l. e i (omega arith)), c k (omega arith), e k (omega arith))
 
 -- a clump written over what stands after the clumps before it
 module _ (p rest : List ℕ) (x y : ℕ) where
@@ -113,11 +113,11 @@ module _ (cells edges head tail : List ℕ) where
 
 -- ---- the bench
 
-pub bench-bytes :
+pub bench_bytes_lem :
     (b : Bench) →
     bench_bytes b ≡ (head_bytes b.opened (hand_byte b.hand) (length (clumps_of b)) b.carried ++ parts (clumps_of b)) ++ replicate (part_size * most_cells - part_size * length (clumps_of b)) 0
 unfolding bench_bytes padded head_bytes
-bench-bytes b =
+bench_bytes_lem b =
     let front = head_bytes b.opened (hand_byte b.hand) (length (clumps_of b)) b.carried ++ parts (clumps_of b) in
     let e : bench_size - length front ≡ part_size * most_cells - part_size * length (clumps_of b) = omega (arith, parts_length (clumps_of b)) in
     ap (λ (n : ℕ). front ++ replicate n 0) e
@@ -131,8 +131,8 @@ unfolding stored
 written opened held clumps carried cells edges b w =
     let whole : take clumps (clumps_of b) ≡ clumps_of b = rw w.clumps_is (take-length (clumps_of b)) in
     let parts_is : parts_to cells edges clumps ≡ parts (clumps_of b) =
-    parts-to-are cells edges (clumps_of b) clumps (omega (arith, w.clumps_is)) w.cells_are w.edges_are ∙ ap parts whole in
-    rw (parts_is, drop_zeros (part_size * clumps) (part_size * most_cells), w.opened_is, w.hand_is, w.carried_is, w.clumps_is) (sym (bench-bytes b))
+    parts_to_are cells edges (clumps_of b) clumps (omega (arith, w.clumps_is)) w.cells_are w.edges_are ∙ ap parts whole in
+    rw (parts_is, drop_zeros (part_size * clumps) (part_size * most_cells), w.opened_is, w.hand_is, w.carried_is, w.clumps_is) (sym (bench_bytes_lem b))
 
 pub fresh_bytes : head_bytes 0 0 0 0 ++ replicate (part_size * most_cells) 0 ≡ bench_bytes fresh
 unfolding bench_bytes padded head_bytes fresh clumps_of parts

@@ -1,5 +1,7 @@
 // The bench as bytes (document 01, "The bench"): saved bytes taken apart and told in form or not, and a bench written as bytes.
 // Any 1,547 bytes may come in: every number is read as it stands, and no place past the buffer or past the lists is touched.
+#![tactic(auto)]
+
 ghost use Rattle.std.specs.Prelude.{◌≡◌, ◌++◌, true, false, cond, ◌&&◌, ◌+◌, ◌-◌, ◌*◌, ◌≤◌, ◌<◌, max, length, drop, replicate};
 ghost use Rattle.rules.specs.Sizes.{most_cells, part_size, bench_size};
 ghost use Rattle.rules.specs.Row.{Row};
@@ -9,7 +11,7 @@ ghost use Rattle.benches.specs.Fits.{has_mark, counts_fit, head_fits, ends_by, c
 ghost use Rattle.benches.specs.Saved.{head_of, Parted, Told, Loaded, Written, head_bytes};
 
 // What saved bytes say: whether they are in form, and if so their numbers. The cells and left edge of each clump, the one in hand last, go to lent lists.
-#[derive(Drop)]
+#[derive(Clone, Copy)]
 pub struct Saved {
     pub formed: bool,
     pub opened: usize,

@@ -25,7 +25,7 @@ use Rattle.engine.proofs.SizeLaws.{lefts_before}
 use Rattle.engine.proofs.HandLaws.{stand_end}
 
 module _ (R : Row) (y : Layout) (laid : Laid R y) (c : Clump) (settled : List Clump) (m : MadeAt R (cells_in settled) c) (all : AllMade R settled)
-    (inside : cells_in settled + c.cells ≤ length R.widths) (apart-all : apart R.width settled ≡ true)
+    (inside : cells_in settled + c.cells ≤ length R.widths) (apart_all : apart R.width settled ≡ true)
     (fits : packed R (cells_in settled + c.cells) ≤ R.width) (keys : List ℕ) (r : Found)
     (found : FoundAs keys y.at y.slope (held_before R (cells_in settled)) (held_before R (cells_in settled + c.cells)) (need c.changes)
     (packed R (cells_in settled)) (stand_of R settled) (limit_of R (cells_in settled + c.cells)) r) where
@@ -42,7 +42,7 @@ module _ (R : Row) (y : Layout) (laid : Laid R y) (c : Clump) (settled : List Cl
   at = r.hand.cap
 
   end_is : last + start ≡ end_of settled
-  end_is = stand_end R R.width settled all apart-all
+  end_is = stand_end R R.width settled all apart_all
 
   room : limit + start ≡ R.width - c.width
   room = omega (arith, clump_width R (cells_in settled) c m)

@@ -56,16 +56,16 @@ heaps_before R y ls keys' cs first end l o h =
 
 -- ---- a heap of consecutive cells
 
-module _ (R : Row) (y : Layout) (laid : Laid R y) (first end i k : ℕ) (i-is : i ≡ first) (k-is : k ≡ end) (ordered : first ≤ end)
+module _ (R : Row) (y : Layout) (laid : Laid R y) (first end i k : ℕ) (i_is : i ≡ first) (k_is : k ≡ end) (ordered : first ≤ end)
     (within : end ≤ length R.widths) where
   bound_from : get_or y.bounds i 0 ≡ held_before R first
-  bound_from = ap (λ (j : ℕ). get_or y.bounds j 0) i-is ∙ laid.bound_at first (omega arith)
+  bound_from = ap (λ (j : ℕ). get_or y.bounds j 0) i_is ∙ laid.bound_at first (omega arith)
 
   bound_to : get_or y.bounds k 0 ≡ held_before R end
-  bound_to = ap (λ (j : ℕ). get_or y.bounds j 0) k-is ∙ laid.bound_at end within
+  bound_to = ap (λ (j : ℕ). get_or y.bounds j 0) k_is ∙ laid.bound_at end within
 
   start_to : get_or y.starts k 0 ≡ packed R end
-  start_to = ap (λ (j : ℕ). get_or y.starts j 0) k-is ∙ laid.start_at end within
+  start_to = ap (λ (j : ℕ). get_or y.starts j 0) k_is ∙ laid.start_at end within
 
   pub makes_by : (ls : Lists) → Roomy R ls → (width : ℕ) → width ≡ R.width → Makes i k width y.starts y.bounds y.at y.slope ls.keys
   makes_by ls roomy width w =

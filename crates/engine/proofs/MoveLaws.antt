@@ -134,7 +134,7 @@ module _ (R : Row) (y : Layout) (laid : Laid R y) (b : Meant) where
 
     -- what the step has worked out
     module _ (want last width : ℕ) (want_is : want ≡ get_or y.needs e.opened 0 - get_or y.needs e.first 0)
-        (last-is : last ≡ stand_of_last e y.starts ls.cells ls.edges) (w : width ≡ R.width) (keys₁ : List ℕ) (e₁ : Bench)
+        (last_is : last ≡ stand_of_last e y.starts ls.cells ls.edges) (w : width ≡ R.width) (keys₁ : List ℕ) (e₁ : Bench)
         (sure : Sure e want width y.starts y.bounds y.at y.slope ls.keys keys₁ e₁) where
       same_first : e₁.first ≡ e.first
       same_first = ap (λ (d : Bench). d.first) sure.only_hand
@@ -147,7 +147,7 @@ module _ (R : Row) (y : Layout) (laid : Laid R y) (b : Meant) where
           rw (sym same_first)
           (hand_seeks R y laid e₁ (with_keys ls keys₁) b.opened b.carried c b.settled u.0 want last
           (omega (arith, wants R y laid e ls b.opened b.carried c b.settled t))
-          (last-is ∙ (hand_last R y laid e ls b.opened b.carried c b.settled t).1)))
+          (last_is ∙ (hand_last R y laid e ls b.opened b.carried c b.settled t).1)))
 
       pub move_chosen : (keys₂ : List ℕ) (r : Found)
           → Outside keys₁ keys₂ (get_or y.bounds e₁.first 0) (get_or y.bounds e₁.first 0 + e₁.hand.size)
@@ -160,7 +160,7 @@ module _ (R : Row) (y : Layout) (laid : Laid R y) (b : Meant) where
           let f =
           found_here R y laid e₁ (with_keys ls keys₁) b.opened b.carried c b.settled u.0 want last (width - get_or y.starts e.opened 0)
           (omega (arith, wants R y laid e ls b.opened b.carried c b.settled t))
-          (last-is ∙ (hand_last R y laid e ls b.opened b.carried c b.settled t).1)
+          (last_is ∙ (hand_last R y laid e ls b.opened b.carried c b.settled t).1)
           (limit_is R y laid e ls b.opened b.carried c b.settled t width w) u.1 keys₂ r
           (subst (λ (k : ℕ). FindsAs e₁ want (get_or y.starts k 0) last (width - get_or y.starts e.opened 0) (get_or y.bounds e₁.first 0) keys₁ keys₂ r)
           (sym same_first) finds) in

@@ -249,7 +249,7 @@ module _ (R : Row) (y : Layout) (laid : Laid R y) (e : Bench) (ls : Lists) (b : 
                 stands,
               )
                   (rw (from, to) at filled),
-              heaps_kept R y ls _ (earlier k cs)
+              heaps_kept R y ls (lists_of ls.cells ls.edges (set ls.sizes k q.size) (set ls.sums k q.sum) keys') (earlier k cs)
                   (λ i l. get_or-set_other ls.sizes k i q.size 0 (λ z. omega arith))
                   (λ i l. get_or-set_other ls.sums k i q.sum 0 (λ z. omega arith))
                   (λ i l. outside.before i (omega arith)) heaps,

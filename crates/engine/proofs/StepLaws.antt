@@ -21,7 +21,7 @@ use Rattle.changes.specs.Steps.{JoinedAs}
 use Rattle.changes.specs.declared.Kept.{Kept}
 use Rattle.changes.specs.declared.Joined.{Joined}
 use Rattle.engine.specs.Laid.{held_before, held_rises, held_most, Layout, Laid}
-use Rattle.engine.specs.Stands.{Lists, stand_of, limit_of, Listed, Roomy, Stands}
+use Rattle.engine.specs.Stands.{Lists, lists_of, stand_of, limit_of, Listed, Roomy, Stands}
 use Rattle.engine.specs.Taken.{last_of, first_of_last, with_hand, with_opened, with_joined, with_settled, MadeAs, FoundAs, meeting_of, settled_lists}
 use Rattle.engine.specs.declared.Bench.{Bench}
 use Rattle.engine.specs.declared.Found.{Found}
@@ -178,7 +178,9 @@ module _ (R : Row) (y : Layout) (laid : Laid R y) (e : Bench) (ls : Lists) (open
               back,
             )
                 s.hand.heap,
-            heaps_kept R y ls _ settled
+            heaps_kept R y ls
+                (lists_of (set ls.cells (length settled) c.cells) (set ls.edges (length settled) (max (end_of settled) (left_of R c)))
+                (set ls.sizes (length settled) e.hand.size) (set ls.sums (length settled) e.hand.sum) ls.keys) settled
                 (λ i l. get_or-set_other ls.sizes (length settled) i e.hand.size 0 (λ z. omega arith))
                 (λ i l. get_or-set_other ls.sums (length settled) i e.hand.sum 0 (λ z. omega arith)) (λ i l. refl) s.heaps,
           );

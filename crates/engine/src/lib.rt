@@ -1,6 +1,8 @@
 // The engine: the published steps open, join and settle on lent lists, and a run of them (document 01, "The steps"). All changes of all cells lie
 // in one pair of lists, cell after cell, each counted from its cell's packed start, and are only read. So a clump's changes are one stretch of them, a
 // join moves none of them left, and what may still be asked for of them lies in a heap in the same stretch of the keys.
+#![tactic(auto)]
+
 ghost use Rattle.std.specs.Prelude.{◌≡◌, not, ◌&&◌, List, ℕ, ◌+◌, ◌-◌, ◌≤◌, length, get_or, set, eqb, leb, ltb};
 ghost use Rattle.changes.specs.Fills.{Outside};
 ghost use Rattle.changes.specs.Steps.{JoinedAs};
@@ -15,7 +17,7 @@ use rules::{Carried, Steps};
 
 // The work so far: how many cells are opened; which cell the clump in hand begins with, none being in hand where that is not opened yet; how many
 // clumps are settled; what is kept of the changes in hand; and how many changes were carried.
-#[derive(Drop)]
+#[derive(Clone, Copy)]
 pub struct Bench {
     pub opened: usize,
     pub first: usize,
@@ -25,7 +27,7 @@ pub struct Bench {
 }
 
 // What the clump in hand does next: what is kept of its changes, and whether it joins the last settled clump. Otherwise it settles at the cap.
-#[derive(Drop)]
+#[derive(Clone, Copy)]
 pub struct Found {
     pub hand: Kept,
     pub joins: bool,
@@ -367,7 +369,7 @@ impl Bench {
 }
 
 // What a run leaves: the bench, and how many steps it took.
-#[derive(Drop)]
+#[derive(Clone, Copy)]
 pub struct Ran {
     pub bench: Bench,
     pub steps: Steps,

@@ -1,5 +1,6 @@
 // The calls that the broker makes, exported for C. Each promises, for every input, its one u64 and every byte of the buffer that it was lent,
 // by the definitions of the crate `rules` (specs/Calls.antt). No call has a `requires`: no caller is trusted.
+#![tactic(auto)]
 
 ghost use Rattle.std.specs.Prelude.{◌≡◌, true, ◌+◌, ◌*◌, ◌≤◌, length};
 ghost use Rattle.numbers.specs.Bytes.{u16_at};

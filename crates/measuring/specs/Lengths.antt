@@ -48,21 +48,21 @@ module _ (ls : NetLists) (nets : ℕ) (ws s : List ℕ) (M : Measurable ls nets 
         rw (site_read (net_at ls k).left (M.kept k h).left_cell, site_read (net_at ls k).right (M.kept k h).right_cell) refl
 
     -- one net more
-    pub length-next :
+    pub length_next :
         length_by (sites_from s 0 (length ws)) (nets_to ls (suc k))
         ≡ length_by (sites_from s 0 (length ws)) (nets_to ls k)
         + (net_at ls k).weight.0 * span_at (net_at ls k) (u32_at s (4 * (net_at ls k).left)) (u32_at s (4 * (net_at ls k).right))
     unfolding sites
-    length-next = rw (nets_suc ls k, span_read) (length_more sites (nets_to ls k) (net_at ls k))
+    length_next = rw (nets_suc ls k, span_read) (length_more sites (nets_to ls k) (net_at ls k))
 
-    pub share-read-small :
+    pub share_read_small :
         (net_at ls k).weight.0 * span_at (net_at ls k) (u32_at s (4 * (net_at ls k).left)) (u32_at s (4 * (net_at ls k).right))
         ≤ heaviest * (3 * widest)
     unfolding sites
-    share-read-small = rw span_read (share_small M.limit ws sites (net_at ls k) M.near M.fits (M.kept k h) (M.light k h))
+    share_read_small = rw span_read (share_small M.limit ws sites (net_at ls k) M.near M.fits (M.kept k h) (M.light k h))
 
   -- so the sum fits a u64 with much room
   pub so_far_small : (k : ℕ) → k ≤ nets → length_by (sites_from s 0 (length ws)) (nets_to ls k) ≤ k * (heaviest * (3 * widest))
   unfolding length_by
   so_far_small zero h = rw (nets_zero ls) (omega arith)
-  so_far_small (suc k) h = omega (arith, length-next k h, share-read-small k h, so_far_small k (omega arith))
+  so_far_small (suc k) h = omega (arith, length_next k h, share_read_small k h, so_far_small k (omega arith))

@@ -18,6 +18,7 @@ sites_more s at k = refl
 -- the i-th site of a placement
 pub sites_at : (s : List ℕ) (at n i : ℕ) → i < n → get_or (sites_from s at n) i 0 ≡ u32_at s (at + 4 * i)
 unfolding sites_from
+sites_at s at zero i h = elim h [ ]
 sites_at s at (suc n) zero h = let e : at + 4 * 0 ≡ at = omega arith in rw e refl
 sites_at s at (suc n) (suc i) h =
     let e : at + 4 * suc i ≡ at + 4 + 4 * i = omega arith in

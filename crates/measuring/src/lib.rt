@@ -1,5 +1,7 @@
 // Measuring a placement (document 01, "Legal, and how long", and refusal 10): the first cell that overlaps, and the netlength by what is kept
 // of each net. A placement is the caller's own 4n bytes, read where they lie.
+#![tactic(auto)]
+
 ghost use Rattle.std.specs.Prelude.{◌≡◌, List, ℕ, ◌+◌, ◌*◌, ◌≤◌, ◌<◌, length};
 ghost use Rattle.rules.specs.Sizes.{most_cells};
 ghost use Rattle.rules.specs.Length.{overlap_from};

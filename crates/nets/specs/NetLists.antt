@@ -148,6 +148,7 @@ nets_length ls (suc k) = omega (arith, length-append (nets_to ls k) (net_at ls k
 
 pub net_among : (ls : NetLists) (nets k : ℕ) → k < nets → In (net_at ls k) (nets_to ls nets)
 unfolding nets_to
+net_among ls zero k h = elim h [ ]
 net_among ls (suc n) k h =
     let g : k ≤ n = omega arith in
     ⊎_elim

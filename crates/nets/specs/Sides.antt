@@ -60,10 +60,10 @@ module _ (pick : ℤ → ℤ → ℤ) (Before : ℤ → ℤ → Type 0) (side : 
       → (z : ℤ) × In z (x ∷ xs) × Before z f → folded pick x xs ≡ pick f e
   picked x xs f e c m s =
       let end = folded pick x xs in
-      let to-f : Before end f = side.onward end s.0 f (folded_before x xs s.0 s.1) s.2 in
+      let to_f : Before end f = side.onward end s.0 f (folded_before x xs s.0 s.1) s.2 in
       side.meet end (pick f e)
       (⊎_elim
-      (λ (q : pick f e ≡ f). subst (λ (a : ℤ). Before end a) (sym q) to-f)
+      (λ (q : pick f e ≡ f). subst (λ (a : ℤ). Before end a) (sym q) to_f)
       (λ (q : pick f e ≡ e). subst (λ (a : ℤ). Before end a) (sym q) (folded_before x xs e m))
       (side.one f e))
       (⊎_elim

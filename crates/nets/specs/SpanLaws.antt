@@ -176,7 +176,7 @@ unfolding summary
 tied_kept W ws t h tied =
     let l = inside ws t tied (left_cell t) (left_offset t) (left_pin ws t tied) in
     let r = inside ws t tied (right_cell t) (right_offset t) (right_pin ws t tied) in
-    let f = near-fixed ws t tied in
+    let f = near_fixed ws t tied in
     record {
       left_cell = l.0;
       right_cell = r.0;
@@ -188,7 +188,7 @@ tied_kept W ws t h tied =
     }
   where
     near_fixed : (ws : List ℕ) (t : Listed) → Tied ws t → (x : ℤ) → In x (fixed_of t.pins) → (above x ≤ widest) × (below x ≤ widest)
-    near-fixed ws t tied x m = tied.ranged.near x (fixed_in t.pins x m)
+    near_fixed ws t tied x m = tied.ranged.near x (fixed_in t.pins x m)
 
 pub kept_near : (W : ℕ) (ws ps : List ℕ) (n : Net) → W ≤ widest → legal_from W 0 ws ps ≡ true → Kept ws n
     → Near n (get_or ps n.left 0) (get_or ps n.right 0)

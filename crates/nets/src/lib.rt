@@ -1,5 +1,7 @@
 // What is kept of a net while it is read, instead of its list of pins: its leftmost and rightmost cells with the offsets of its pins on
 // them, its leftmost and rightmost fixed pins, and its weight (document 01, "Slope changes"). Its span is measured by these alone.
+#![tactic(auto)]
+
 ghost use Rattle.std.specs.Prelude.{◌≡◌, [], ℕ, ◌+◌, ◌*◌, ◌^◌, ◌≤◌, ◌<◌, pos, ◌-ℤ◌};
 ghost use Rattle.std.specs.Int.{w32};
 ghost use Rattle.std.proofs.Common.{SFits};
@@ -16,7 +18,7 @@ use rules::Weight;
 
 // `left` and `right` are the cells L and R, `onleft` and `onright` the offsets on them; `fl` and `fr` are the fixed pins. The two short
 // numbers stand side by side: without gaps in memory, 512 of these are cleared at one stroke.
-#[derive(Drop)]
+#[derive(Clone, Copy)]
 pub struct Net {
     pub weight: Weight,
     pub left: u16,
@@ -28,7 +30,7 @@ pub struct Net {
 }
 
 // The net that is being read: has it a fixed pin, and has it a pin on a cell?
-#[derive(Drop)]
+#[derive(Clone, Copy)]
 pub struct Draft {
     pub net: Net,
     pub anchored: bool,

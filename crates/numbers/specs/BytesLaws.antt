@@ -104,11 +104,11 @@ u32_written s k small h =
     let d = small (k + 3) in
     let after_one : u32_at s k / 256 ≡ get_or s (k + 1) 0 + 256 * get_or s (k + 2) 0 + 65536 * get_or s (k + 3) 0 = omega arith in
     let after_two : u32_at s k / 65536 ≡ get_or s (k + 2) 0 + 256 * get_or s (k + 3) 0 = omega arith in
-    let after-three : u32_at s k / 16777216 ≡ get_or s (k + 3) 0 = omega arith in
+    let after_three : u32_at s k / 16777216 ≡ get_or s (k + 3) 0 = omega arith in
     let first : u32_at s k % 256 ≡ get_or s k 0 = omega arith in
     let second : u32_at s k / 256 % 256 ≡ get_or s (k + 1) 0 = rw after_one (omega arith) in
     let third : u32_at s k / 65536 % 256 ≡ get_or s (k + 2) 0 = rw after_two (omega arith) in
-    let fourth : u32_at s k / 16777216 % 256 ≡ get_or s (k + 3) 0 = rw after-three (omega arith) in
+    let fourth : u32_at s k / 16777216 % 256 ≡ get_or s (k + 3) 0 = rw after_three (omega arith) in
     let three : k + 2 + 1 ≡ k + 3 = omega arith in
     rw (first_two s k (k + 2) (omega arith) refl, first_two s (k + 2) (k + 4) h (omega arith), three)
     (rw (first, second, third, fourth))

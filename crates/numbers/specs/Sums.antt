@@ -19,6 +19,7 @@ sum_le f g (suc n) h = omega (arith, sum_le f g n (λ i l. h i (omega arith)), h
 -- each counts in the sum
 pub sum_each : (f : ℕ → ℕ) (n i : ℕ) → i < n → f i ≤ sum_to f n
 unfolding sum_to
+sum_each f zero i h = absurd (omega arith)
 sum_each f (suc n) i h =
     let g : i ≤ n = omega arith in
     ⊎_elim (λ (e : i ≡ n). omega (arith, ap f e)) (λ (l : i < n). omega (arith, sum_each f n i l)) (eq-or-lt_of_le g)

@@ -1,6 +1,8 @@
 // Little-endian numbers in bytes, and the whole part of the base-2 logarithm.
 // Each function says exactly what it returns or leaves behind, by the
 // definitions of specs/.
+#![tactic(auto)]
+
 ghost use Rattle.std.specs.Prelude.{◌≡◌, ◌++◌, ◌+◌, ◌*◌, ◌≤◌, length, take, drop, replicate};
 ghost use Rattle.std.specs.Int.{w32};
 ghost use Rattle.std.proofs.Common.{to_z};

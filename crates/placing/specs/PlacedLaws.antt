@@ -20,7 +20,7 @@ use Rattle.layout.specs.RowLaws.{places_of_row}
 use Rattle.benches.specs.declared.Saved.{Saved}
 use Rattle.benches.specs.Saved.{Told, Loaded}
 use Rattle.benches.specs.BothLaws.{clash}
-use Rattle.benches.specs.FormLaws.{formed, by_hand, bench-with, bench-without}
+use Rattle.benches.specs.FormLaws.{formed, by_hand, bench_with, bench_without}
 use Rattle.benches.specs.LegalLaws.{finished_legal}
 use Rattle.measuring.specs.Measures.{Measurable}
 use Rattle.measuring.specs.HeldLaws.{measurable, measured_length}
@@ -63,13 +63,13 @@ module _ (h : Sheet) (widths : List ℕ) (ls : NetLists) (R : Row) (held : Holds
         let t = loaded.tells form in
         rw (t.held, t.opened, held.cells)
         (by_hand R s f.hand_bit
-        (λ e. rw e (sym (ap (λ (b : Bench). finished R b) (bench-without R s e))))
-        (λ e. rw e (sym (ap (λ (b : Bench). finished R b) (bench-with R s e (omega (arith, f.hand_clump)))))))
+        (λ e. rw e (sym (ap (λ (b : Bench). finished R b) (bench_without R s e))))
+        (λ e. rw e (sym (ap (λ (b : Bench). finished R b) (bench_with R s e (omega (arith, f.hand_clump)))))))
 
     pub ready :
         (placement : List ℕ) → length placement ≡ 4 * h.cells → h.cells ≤ length counts → h.cells ≤ length edges → finished R (bench_of R s) ≡ true →
         Ready R s saved.clumps counts edges widths placement
-    ready placement room counts-long edges-long ends =
+    ready placement room counts_long edges_long ends =
         record {
           form = form;
           ends = ends;

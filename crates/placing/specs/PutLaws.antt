@@ -15,7 +15,7 @@ use Rattle.rules.specs.Calls.{packed, positions_in, positions, site_bytes}
 use Rattle.slopes.specs.Forgotten.{cells_in}
 use Rattle.slopes.specs.Frame.{packed_suc}
 use Rattle.benches.specs.BothLaws.{clash}
-use Rattle.benches.specs.FormLaws.{Formed, formed, by_hand, bench-with, bench-without}
+use Rattle.benches.specs.FormLaws.{Formed, formed, by_hand, bench_with, bench_without}
 use Rattle.benches.specs.FitsLaws.{cells_rise}
 use Rattle.benches.specs.ApartLaws.{apart_stand}
 use Rattle.benches.specs.MadeLaws.{clump_cells, clump_edge, clump_width}
@@ -84,16 +84,16 @@ module _ (R : Row) (s : List ℕ) (form : in_form R s ≡ true) (ends : finished
   unfolding finished finished_by
   no_hand =
       by_hand R s told.hand_bit (λ e. e)
-      (λ e. absurd (clash (finished R (bench_of R s)) ends (ap (λ (b : Bench). finished R b) (bench-with R s e (omega (arith, told.hand_clump))))))
+      (λ e. absurd (clash (finished R (bench_of R s)) ends (ap (λ (b : Bench). finished R b) (bench_with R s e (omega (arith, told.hand_clump))))))
 
   all_opened : saved_opened s ≡ length R.widths
   unfolding finished finished_by
   all_opened =
-      omega (arith, told.within, leb-true (length R.widths) (saved_opened s) (sym (ap (λ (b : Bench). finished R b) (bench-without R s no_hand)) ∙ ends))
+      omega (arith, told.within, leb-true (length R.widths) (saved_opened s) (sym (ap (λ (b : Bench). finished R b) (bench_without R s no_hand)) ∙ ends))
 
   positions_all : positions_to R s (saved_clumps s) ≡ positions R (bench_of R s)
   unfolding positions_to positions
-  positions_all = sym (ap (λ (b : Bench). positions R b) (bench-without R s no_hand))
+  positions_all = sym (ap (λ (b : Bench). positions R b) (bench_without R s no_hand))
 
   -- ---- clump by clump
 

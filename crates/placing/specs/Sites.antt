@@ -2,7 +2,7 @@
 -- placement by writing some of them, cell after cell.
 use Rattle.std.specs.Prelude.{◌≡◌, ℕ, suc, ◌+◌, ◌*◌, ◌≤◌, ◌<◌, get_or}
 use Rattle.std.proofs.Math.Path.{refl, ap}
-use Rattle.std.proofs.Common.{sym, ◌∙◌, zero-lt-suc, take-append-drop, length-take-le}
+use Rattle.std.proofs.Common.{sym, ap, subst, ◌∙◌, zero-lt-suc, take-append-drop, length-take-le}
 use mathlib.Core.List.{List, [], ◌∷◌, ◌++◌, append_assoc, append-nil}
 use native.Mathlib.Omega.{arith}
 use Rattle.std.proofs.Math.ListN.{length, take, drop, length-append}
@@ -35,13 +35,12 @@ unfolding site_bytes sites_from
 sites_after front [] small = refl
 sites_after front (p ∷ ps) small =
     let next : length front + 4 ≡ length (front ++ u32_bytes p) = omega (arith, length-append front (u32_bytes p)) in
-    rw (
-      u32_read_after front p (site_bytes ps) (small 0 (zero-lt-suc (length ps))),
-      next,
-      ← append_assoc front (u32_bytes p) (site_bytes ps),
-      sites_after (front ++ u32_bytes p) ps (λ i h. small (suc i) (omega arith)),
-    )
-    refl
+    let whole : (front ++ u32_bytes p) ++ site_bytes ps ≡ front ++ site_bytes (p ∷ ps) = append_assoc front (u32_bytes p) (site_bytes ps) in
+    let rest : sites_from (front ++ site_bytes (p ∷ ps)) (length front + 4) (length ps) ≡ ps =
+    subst (λ (s : List ℕ). sites_from s (length front + 4) (length ps) ≡ ps) whole
+    (subst (λ (k : ℕ). sites_from ((front ++ u32_bytes p) ++ site_bytes ps) k (length ps) ≡ ps) (sym next)
+    (sites_after (front ++ u32_bytes p) ps (λ i h. small (suc i) (omega arith)))) in
+    rw (u32_read_after front p (site_bytes ps) (small 0 (zero-lt-suc (length ps)))) (ap (λ (l : List ℕ). p ∷ l) rest)
 
 pub sites_back : (ps : List ℕ) → ((i : ℕ) → i < length ps → get_or ps i 0 < 4294967296) → sites_from (site_bytes ps) 0 (length ps) ≡ ps
 sites_back ps small = sites_after [] ps small

@@ -1,5 +1,7 @@
 // Placement (document 01, "What the broker calls"): the positions of a finished bench as bytes, and their netlength, for a row that was read.
 // A bench that is not in form or not finished leaves every byte of the placement as it is.
+#![tactic(auto)]
+
 ghost use Rattle.std.specs.Prelude.{◌≡◌, not, ◌&&◌, List, ℕ, ◌+◌, ◌-◌, ◌*◌, ◌≤◌, leb, length, drop};
 ghost use Rattle.rules.specs.Sizes.{bench_size};
 ghost use Rattle.rules.specs.Row.{Row};
@@ -12,7 +14,7 @@ ghost use Rattle.placing.specs.Puts.{Fits, Ready};
 ghost use Rattle.placing.specs.PlacedAs.{PlacedAs};
 
 // Is the bench in form, is it finished, and if both, how long is the netlength?
-#[derive(Drop)]
+#[derive(Clone, Copy)]
 pub struct Placed {
     pub formed: bool,
     pub finished: bool,

@@ -126,5 +126,5 @@ pub cell_refused : (s ws : List ℕ) (sum : ℕ) (p : Progress) (t : List ℕ) (
 cell_refused s ws sum p t c i r is few other =
     let u = i.underway in
     let fewer : length c.widths < c.head.cells = omega (arith, u.shows.filled, u.shows.cells) in
-    let refused-by = cell_or_refused c r (told c t r is) i.started i.none fewer other in
-    rw u.shows.place (u.same ∙ read_refused c t (refusal_of r) (is ∙ refused-by))
+    let refused_by = cell_or_refused c r (told c t r is) i.started i.none fewer other in
+    rw u.shows.place (u.same ∙ read_refused c t (refusal_of r) (is ∙ refused_by))

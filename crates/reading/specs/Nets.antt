@@ -105,7 +105,8 @@ closed_stored : (W opened n : ℕ) (r : Record) (d : Draft) (ls : NetLists) (ts 
     → Drafting W d ts → Stored W ls (behind ts) → Room ls n → Stored W (closed_by r opened d ls) ts
 closed_stored W opened n r d ls [] closing long few draft h room = tt
 closed_stored W opened n r d ls (t ∷ ts) closing long few draft h room =
-    rw (closing, lt-ltb 0 opened (omega arith)) (stored_open W (opened - 1) n ls d t ts draft h (omega arith) (omega arith) room)
+    let is : closed_by r opened d ls ≡ with_net ls (opened - 1) d.net = rw (closing, lt-ltb 0 opened (omega arith)) refl in
+    subst (λ (l : NetLists). Stored W l (t ∷ ts)) (sym is) (stored_open W (opened - 1) n ls d t ts draft h (omega arith) (omega arith) room)
 
 -- a record that goes on among the nets changes only the nets, and leaves all but the open one stored
 pub record Opens (c : Reading) (ls : NetLists) (r : Record) : Type 0 where

@@ -1,6 +1,8 @@
 // Reading a whole row where the broker holds it (document 01, "The row as bytes"): one RW, n CE, then the records of m nets, then EN, the
 // tail (3) and the widths (6). Of a net only its summary is kept, and put into
 // lent lists when the next NT or EN closes it.
+#![tactic(auto)]
+
 ghost use Rattle.std.specs.Prelude.{◌≡◌, List, ℕ, ◌≤◌, min, length};
 ghost use Rattle.rules.specs.Sizes.{widest, most_cells, most_nets};
 ghost use Rattle.rules.specs.Records.{Reading};
@@ -20,14 +22,14 @@ use records::Progress;
 use rules::{Record, Refusal};
 
 // Is a row taken, or why not?
-#[derive(Drop)]
+#[derive(Clone, Copy)]
 pub enum Verdict {
     Taken,
     Refused(Refusal),
 }
 
 // A row that was read: its width, how many cells and nets; or the refusal and its place. The widths and what is kept of the nets go to lent lists.
-#[derive(Drop)]
+#[derive(Clone, Copy)]
 pub struct Sheet {
     pub verdict: Verdict,
     pub place: u32,
@@ -37,7 +39,7 @@ pub struct Sheet {
 }
 
 // What RW and the CE leave: how far the reading has come, the bytes that they took, and the sum of the widths.
-#[derive(Drop)]
+#[derive(Clone, Copy)]
 struct Cells {
     pub verdict: Verdict,
     pub progress: Progress,
@@ -46,7 +48,7 @@ struct Cells {
 }
 
 // What the last record says of the row, and the place of a refusal.
-#[derive(Drop)]
+#[derive(Clone, Copy)]
 struct Finding {
     pub verdict: Verdict,
     pub place: u32,

@@ -1,6 +1,8 @@
 // Reading one record of a row where the broker holds it (document 01, "The row as bytes"), and handing back the rest of its bytes.
 // Each part of a row has a reader of its own, for the marks that may stand there: RW, then CE, then NT, FP, MP and EN. Each is called at
 // one place, so that a record that was read stays in registers. A small struct says how far the reading has come.
+#![tactic(auto)]
+
 ghost use Rattle.std.specs.Prelude.{◌≡◌, List, ◌&&◌, ℕ, ◌≤◌, ltb, leb, pos, neg_ℤ, length, get_or, drop};
 ghost use Rattle.std.specs.Int.Signed.{le_z};
 ghost use Rattle.rules.specs.Sizes.{widest, most_cells, most_nets, heaviest, most_pins};
@@ -20,7 +22,7 @@ const LEFTMOST: i32 = -(rules::WIDEST as i32);
 const RIGHTMOST: i32 = rules::WIDEST as i32;
 
 // How far the reading of a row has come, without the lists: the place of the record that comes next, what RW said, and what was read since.
-#[derive(Drop)]
+#[derive(Clone, Copy)]
 pub struct Progress {
     pub place: u32,
     pub width: u32,

@@ -1,5 +1,7 @@
 // rowplace: reads a row on standard input, runs it to the finish and prints its placement, or the refusal (document 01, "Rows worked by hand").
 // A thin program over the library: all that it prints comes from the proved calls. What is read and written is tested, not proved.
+#![tactic(auto)]
+
 ghost use Rattle.std.specs.Prelude.{◌≡◌, ◌*◌, ◌≤◌, length};
 ghost use Rattle.rules.specs.Sizes.{most_cells};
 

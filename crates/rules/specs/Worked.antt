@@ -52,11 +52,11 @@ holds : List ℕ → Fact → Bool
 holds row (stands ps k) =
     let o = placement_call row (bench_after row enough) (replicate (4 * length ps) 255) in
     eqb o.answer k && (same o.buffer (site_bytes ps) && eqb (measure_call row (site_bytes ps)).answer k)
-holds row (takes-steps k) = eqb (slice_call row (bench_after row 0) enough).answer (2 * k + 1)
+holds row (takes_steps k) = eqb (slice_call row (bench_after row 0) enough).answer (2 * k + 1)
 holds row (carries k) = eqb (u32_at (bench_after row enough) 7) k
 holds row (begins k bytes) = same (take (length bytes) (bench_after row k)) bytes
 holds row (slices k budget x) = eqb (slice_call row (bench_after row k) budget).answer x
-holds row (refused-by q place) = eqb (check_call row).answer (refusal q place)
+holds row (refused_by q place) = eqb (check_call row).answer (refusal q place)
 
 all_hold : List ℕ → List Fact → Bool
 all_hold row [] = true
@@ -248,20 +248,20 @@ joins_once =
 
 pub table : List Worked
 table =
-    record { row = row1; facts = stands [] 0 ∷ takes-steps 0 ∷ [] }
+    record { row = row1; facts = stands [] 0 ∷ takes_steps 0 ∷ [] }
     ∷ record { row = row2; facts = stands (0 ∷ []) 0 ∷ [] }
-    ∷ record { row = row2_full; facts = refused-by Full 2 ∷ [] }
+    ∷ record { row = row2_full; facts = refused_by Full 2 ∷ [] }
     ∷ record { row = row3; facts = stands (3 ∷ []) 3 ∷ [] }
     ∷ record { row = row4; facts = stands (2 ∷ []) 4 ∷ [] }
     ∷ record { row = row4_weighed; facts = stands (6 ∷ []) 8 ∷ [] }
     ∷ record { row = row5; facts = stands (0 ∷ []) 5 ∷ [] }
-    ∷ record { row = row6; facts = stands (0 ∷ 2 ∷ []) 2 ∷ takes-steps 5 ∷ carries 1 ∷ [] }
-    ∷ record { row = row7; facts = stands (0 ∷ 2 ∷ []) 6 ∷ takes-steps 5 ∷ carries 2 ∷ [] }
+    ∷ record { row = row6; facts = stands (0 ∷ 2 ∷ []) 2 ∷ takes_steps 5 ∷ carries 1 ∷ [] }
+    ∷ record { row = row7; facts = stands (0 ∷ 2 ∷ []) 6 ∷ takes_steps 5 ∷ carries 2 ∷ [] }
     ∷ record {
       row = row8;
       facts =
           stands (2 ∷ 4 ∷ 7 ∷ []) 8
-          ∷ takes-steps 8
+          ∷ takes_steps 8
           ∷ carries 4
           ∷ begins 5 (0x42 ∷ 0x4e ∷ 2 ∷ 0 ∷ 0 ∷ 1 ∷ 0 ∷ 2 ∷ 0 ∷ 0 ∷ 0 ∷ 2 ∷ 0 ∷ 2 ∷ 0 ∷ 0 ∷ 0 ∷ [])
           ∷ begins 7 (0x42 ∷ 0x4e ∷ 3 ∷ 0 ∷ 1 ∷ 1 ∷ 0 ∷ 4 ∷ 0 ∷ 0 ∷ 0 ∷ 3 ∷ 0 ∷ 0 ∷ 0 ∷ 0 ∷ 0 ∷ [])
@@ -270,9 +270,9 @@ table =
           ∷ [];
     }
     ∷ record { row = right_limit; facts = stands (7 ∷ []) 2 ∷ [] }
-    ∷ record { row = limit_joins; facts = stands (2 ∷ 6 ∷ []) 7 ∷ takes-steps 5 ∷ carries 0 ∷ [] }
-    ∷ record { row = joins_once; facts = stands (2 ∷ 10 ∷ 12 ∷ []) 22 ∷ takes-steps 7 ∷ carries 2 ∷ [] }
-    ∷ record { row = end_at_right; facts = stands (3 ∷ 5 ∷ []) 0 ∷ takes-steps 4 ∷ [] }
+    ∷ record { row = limit_joins; facts = stands (2 ∷ 6 ∷ []) 7 ∷ takes_steps 5 ∷ carries 0 ∷ [] }
+    ∷ record { row = joins_once; facts = stands (2 ∷ 10 ∷ 12 ∷ []) 22 ∷ takes_steps 7 ∷ carries 2 ∷ [] }
+    ∷ record { row = end_at_right; facts = stands (3 ∷ 5 ∷ []) 0 ∷ takes_steps 4 ∷ [] }
     ∷ []
 
 pub worked : all_worked table ≡ true

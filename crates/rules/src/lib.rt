@@ -1,5 +1,6 @@
 // The rules of document 01, written down. This crate holds no code: its `specs/` are the definitions that every promise cites, in the
 // document's order, and this file declares the enums that code and definitions share.
+#![tactic(auto)]
 
 // The sizes that the code is built with; specs/Sizes.antt names the same numbers for the definitions.
 pub const WIDEST: u32 = 1_000_000;
@@ -35,20 +36,20 @@ pub const FEW_NETS: usize = 128;
 pub const FEW_CHANGES: usize = 2 * FEW_NETS;
 
 // Four counts that never stand in for one another.
-#[derive(Drop)]
+#[derive(Clone, Copy)]
 pub struct Site(pub u32);
 
-#[derive(Drop)]
+#[derive(Clone, Copy)]
 pub struct Weight(pub u32);
 
-#[derive(Drop)]
+#[derive(Clone, Copy)]
 pub struct Steps(pub u32);
 
-#[derive(Drop)]
+#[derive(Clone, Copy)]
 pub struct Carried(pub u32);
 
 // The ten refusals. Their numbers are `number` in specs/Refusals.antt.
-#[derive(Drop)]
+#[derive(Clone, Copy)]
 pub enum Refusal {
     Cut,
     WrongMark,
@@ -63,7 +64,7 @@ pub enum Refusal {
 }
 
 // What the two bytes that open a record say.
-#[derive(Drop)]
+#[derive(Clone, Copy)]
 pub enum Mark {
     RowMark,
     CellMark,
@@ -75,7 +76,7 @@ pub enum Mark {
 }
 
 // What reading one record answers: the record with its numbers, or why it is refused.
-#[derive(Drop)]
+#[derive(Clone, Copy)]
 pub enum Record {
     Rw(u32, u16, u16),
     Ce(u32),

@@ -14,7 +14,7 @@ use Rattle.changes.specs.Fills.{most_changes}
 use Rattle.benches.specs.declared.Saved.{Saved}
 use Rattle.benches.specs.Saved.{Tells}
 use Rattle.benches.specs.MadeLaws.{clump_cells, clump_edge}
-use Rattle.benches.specs.FormLaws.{Formed, formed, by_hand, settled_are, bench-with, bench-without, clumps_least}
+use Rattle.benches.specs.FormLaws.{Formed, formed, by_hand, settled_are, bench_with, bench_without, clumps_least}
 use Rattle.benches.specs.BackLaws.{clumps_count, bench_opened, bench_carried}
 use Rattle.engine.specs.declared.Bench.{Bench}
 use Rattle.engine.specs.Stands.{Listed, Numbers}
@@ -47,7 +47,7 @@ module _ (R : Row) (s cells edges : List ℕ) (r : Saved) (form : in_form R s �
   begun_without : saved_hand s ≡ 0 → Numbers R start cells edges (bench_of R s)
   begun_without e =
       let held : r.held ≡ false = tells.held ∙ rw e refl in
-      let b = bench-without R s e in
+      let b = bench_without R s e in
       let settled : (bench_of R s).settled ≡ clumps_to R s (saved_clumps s) = ap (λ (x : Meant). x.settled) b in
       rw held
       (record {
@@ -67,7 +67,7 @@ module _ (R : Row) (s cells edges : List ℕ) (r : Saved) (form : in_form R s �
   unfolding cells_in
   hand_cells e =
       let some : 1 ≤ saved_clumps s = omega (arith, f.hand_clump) in
-      let b = bench-with R s e some in
+      let b = bench_with R s e some in
       let settled : (bench_of R s).settled ≡ clumps_to R s (saved_clumps s - 1) = ap (λ (x : Meant). x.settled) b in
       let all : cells_in (all_clumps (bench_of R s).hand (bench_of R s).settled) ≡ cells_in (clumps_to R s (saved_clumps s - 1)) + (clump_at R s (saved_clumps s - 1)).cells =
       ap (λ (x : Meant). cells_in (all_clumps x.hand x.settled)) b in
@@ -86,7 +86,7 @@ module _ (R : Row) (s cells edges : List ℕ) (r : Saved) (form : in_form R s �
   begun_with e =
       let some : 1 ≤ saved_clumps s = omega (arith, f.hand_clump) in
       let held : r.held ≡ true = tells.held ∙ rw e refl in
-      let b = bench-with R s e some in
+      let b = bench_with R s e some in
       let settled : (bench_of R s).settled ≡ clumps_to R s (saved_clumps s - 1) = ap (λ (x : Meant). x.settled) b in
       rw held
       (record {

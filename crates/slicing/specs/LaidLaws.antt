@@ -39,7 +39,7 @@ widths_near (w ∷ ws) e (suc i) = widths_near ws e.1 i
 
 module _ (h : Sheet) (widths : List ℕ) (ls : NetLists) (R : Row) (holds : Holds h widths ls R) where
   pub few_cells_lem : h.cells ≤ most_cells
-  few_cells = omega (arith, holds.cells, holds.sound.few_cells)
+  few_cells_lem = omega (arith, holds.cells, holds.sound.few_cells)
 
   pub widths_room : h.cells ≤ length widths
   widths_room = omega (arith, holds.cells, holds.room_cells)

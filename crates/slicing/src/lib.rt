@@ -1,5 +1,7 @@
 // A slice of a row that was read (document 01, "What the broker calls", slice): the saved bench is loaded, the row's changes are laid out, at most
 // so many steps are taken, and the bench that they leave is written. A bench that is not in form is left as it is.
+#![tactic(auto)]
+
 ghost use Rattle.std.specs.Prelude.{◌≡◌, true, false, cond, ◌-◌, ◌≤◌, length, get_or};
 ghost use Rattle.rules.specs.Sizes.{most_cells, bench_size};
 ghost use Rattle.rules.specs.Row.{Row};
@@ -19,7 +21,7 @@ use layout::{lay_out, lay_starts};
 use rules::{Carried, Steps};
 
 // What a slice answers: whether the bench was in form, and if so how many steps it took and whether all is done.
-#[derive(Drop)]
+#[derive(Clone, Copy)]
 pub struct Sliced {
     pub formed: bool,
     pub steps: Steps,

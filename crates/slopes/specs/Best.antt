@@ -73,17 +73,17 @@ best_right_last limit cs y g h =
     let b : Beats right (cost cs) (best right limit cs) y = best_beats right limit cs y g in
     by_order (cost cs y) (cost cs (best right limit cs)) (λ (e : cost cs y ≤ cost cs (best right limit cs)). absurd (omega (arith, b.tie e))) (λ l. l)
 
-pub best-left-is :
+pub best_left_is :
     (limit : ℕ) (cs : List Change) (y : ℕ) → y ≤ limit → ((v : ℕ) → v < y → sizes_to cs (pos v) < need cs)
     → (y < limit → need cs ≤ sizes_to cs (pos y)) → best_left limit cs ≡ y
 unfolding best best_left
-best-left-is limit cs y h g t = best_is left limit cs y (record { within = h; below = λ v l. omega (arith, g v l); turned = λ l. omega (arith, t l) })
+best_left_is limit cs y h g t = best_is left limit cs y (record { within = h; below = λ v l. omega (arith, g v l); turned = λ l. omega (arith, t l) })
 
-pub best-right-is :
+pub best_right_is :
     (limit : ℕ) (cs : List Change) (y : ℕ) → y ≤ limit → ((v : ℕ) → v < y → sizes_to cs (pos v) ≤ need cs)
     → (y < limit → need cs < sizes_to cs (pos y)) → best_right limit cs ≡ y
 unfolding best best_right
-best-right-is limit cs y h g t = best_is right limit cs y (record { within = h; below = λ v l. omega (arith, g v l); turned = λ l. omega (arith, t l) })
+best_right_is limit cs y h g t = best_is right limit cs y (record { within = h; below = λ v l. omega (arith, g v l); turned = λ l. omega (arith, t l) })
 
 pub best_left_right : (limit : ℕ) (cs : List Change) → best_left limit cs ≤ best_right limit cs
 unfolding best best_left best_right

@@ -83,6 +83,7 @@ module _ (s : Side) (f : ℕ → ℕ) where
 
   pub cheapest_beats : (x : ℕ) (ys : List ℕ) (z : ℕ) → Memᴰ z (x ∷ ys) → Beats s f (cheapest (wanted s) f x ys) z
   unfolding cheapest
+  cheapest_beats x [] z (Memᴰ.tail m) = elim m [ ]
   cheapest_beats x [] z (Memᴰ.head e) = rw e (beats_refl x)
   cheapest_beats x (y ∷ ys) z (Memᴰ.head e) =
       rw e (beats_trans (cheapest (wanted s) f (kept x y) ys) (kept x y) x (cheapest_beats (kept x y) ys (kept x y) (Memᴰ.head refl)) (kept_beats x y).0)

@@ -2,7 +2,7 @@
 -- (document 01, "The steps", join): the changes of consecutive cells lie side by side, and a clump's best interval is found in them.
 use Rattle.std.specs.Prelude.{◌≡◌, refl, List, [], ◌∷◌, ◌++◌, ℕ, zero, suc, ◌+◌, ◌≤◌, ◌<◌, get_or, take, ℤ, pos, ◌+ℤ◌, ◌-ℤ◌, ◌≤ℤ◌, ◌<ℤ◌}
 use Rattle.std.proofs.Common.{ap, sym, ◌∙◌, ⊎_elim, append-nil, append_assoc, add-zero, add-suc, arith}
-use Rattle.std.proofs.Math.IntN.{-ℤ-+ℤ_cancel}
+use Rattle.std.proofs.Math.IntN.{ -ℤ-+ℤ_cancel }
 use Rattle.numbers.specs.Signed.{above, below}
 use Rattle.numbers.specs.SignedLaws.{one_part, add_parts, sub_parts, parts_le, le_parts, lt_parts, nonneg}
 use Rattle.rules.specs.Row.{Row}
@@ -148,14 +148,14 @@ module _ (s : Side) (d limit : ℕ) (cs ds : List Change) (same : Same ds (moved
 
 -- l and r by name. With d the packed place of a clump's first cell, `made_framed` says that its moved changes are `framed`
 module _ (d limit : ℕ) (cs ds : List Change) (same : Same ds (moved d cs)) (x : ℤ) (from : (pos 0 -ℤ pos d) ≤ℤ x) (to : x ≤ℤ (pos limit -ℤ pos d)) where
-  pub best-left-moved :
+  pub best_left_moved :
       ((v : ℤ) → (pos 0 -ℤ pos d) ≤ℤ v → v <ℤ x → sizes_to ds v < need ds) → (x <ℤ (pos limit -ℤ pos d) → need ds ≤ sizes_to ds x)
       → pos (best_left limit cs) ≡ x +ℤ pos d
   unfolding best best_left
-  best-left-moved short enough = best_moved left d limit cs ds same x from to (λ v h g. omega (arith, short v h g)) (λ h. omega (arith, enough h))
+  best_left_moved short enough = best_moved left d limit cs ds same x from to (λ v h g. omega (arith, short v h g)) (λ h. omega (arith, enough h))
 
-  pub best-right-moved :
+  pub best_right_moved :
       ((v : ℤ) → (pos 0 -ℤ pos d) ≤ℤ v → v <ℤ x → sizes_to ds v ≤ need ds) → (x <ℤ (pos limit -ℤ pos d) → need ds < sizes_to ds x)
       → pos (best_right limit cs) ≡ x +ℤ pos d
   unfolding best best_right
-  best-right-moved short enough = best_moved right d limit cs ds same x from to (λ v h g. omega (arith, short v h g)) (λ h. omega (arith, enough h))
+  best_right_moved short enough = best_moved right d limit cs ds same x from to (λ v h g. omega (arith, short v h g)) (λ h. omega (arith, enough h))

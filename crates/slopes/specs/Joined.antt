@@ -38,16 +38,16 @@ moved_length d (c ∷ cs) = ap suc (moved_length d cs)
 
 -- ---- clumps joined
 
-changes-assoc :
+changes_assoc :
     (v w : ℕ) (cs ds es : List Change) → (cs ++ moved v ds) ++ moved (v + w) es ≡ cs ++ moved v (ds ++ moved w es)
-changes-assoc v w cs ds es = rw (append_assoc, moved_append v ds (moved w es), moved_moved v w es) refl
+changes_assoc v w cs ds es = rw (append_assoc, moved_append v ds (moved w es), moved_moved v w es) refl
 
 pub joined_assoc : (a b c : Clump) → joined (joined a b) c ≡ joined a (joined b c)
 unfolding joined
 joined_assoc a b c =
     let n : a.cells + b.cells + c.cells ≡ a.cells + (b.cells + c.cells) = omega arith in
     let w : a.width + b.width + c.width ≡ a.width + (b.width + c.width) = omega arith in
-    rw (changes-assoc a.width b.width a.changes b.changes c.changes, n, w) refl
+    rw (changes_assoc a.width b.width a.changes b.changes c.changes, n, w) refl
 
 pub made_joined : (R : Row) (a j k : ℕ) → joined (made R a j) (made R (a + suc j) k) ≡ made R a (suc (j + k))
 unfolding made

@@ -7,7 +7,7 @@ use Rattle.numbers.specs.Signed.{above, below}
 use Rattle.numbers.specs.SignedLaws.{abs_parts, parts_le, lin_le, lin_nle}
 use Rattle.rules.specs.Changes.{Change, rise, fall}
 use Rattle.rules.specs.Steps.{moved}
-use Rattle.slopes.specs.Tally.{tally_of, tally_cong, tally_le, tally-balance, tally_append, tally_moved, rise_of, fall_of, moved_one, rise_tally, fall_tally}
+use Rattle.slopes.specs.Tally.{tally_of, tally_cong, tally_le, tally_balance, tally_append, tally_moved, rise_of, fall_of, moved_one, rise_tally, fall_tally}
 use Rattle.slopes.specs.Slope.{moved_test}
 
 -- the size of a change at or left of y
@@ -34,7 +34,7 @@ size_of_lem y c = go (le_z c.at y)
 -- so the slope is at least 0 where need ≤ sizes_to, and above 0 where need < sizes_to
 pub sizes_slope : (cs : List Change) (y : ℤ) → rise cs y + need cs ≡ sizes_to cs y + fall cs y
 unfolding sizes_to need
-sizes_slope cs y = rw (rise_tally cs y, fall_tally cs y) (tally-balance (rise_of y) need_of (size_to y) (fall_of y) (size_of_lem y) cs)
+sizes_slope cs y = rw (rise_tally cs y, fall_tally cs y) (tally_balance (rise_of y) need_of (size_to y) (fall_of y) (size_of_lem y) cs)
 
 -- ---- further right, of two lists in one, and of a list moved left
 

@@ -7,7 +7,7 @@ use Rattle.numbers.specs.Signed.{above, below}
 use Rattle.numbers.specs.SignedLaws.{one_part, add_parts, sub_parts, parts_le, lin_le, lin_nle, le_lin, nle_lin}
 use Rattle.rules.specs.Changes.{Change, cost_of, cost, rise, fall}
 use Rattle.rules.specs.Steps.{moved}
-use Rattle.slopes.specs.Tally.{tally_cong, tally_le, tally-balance, tally_append, tally_moved, rise_of, fall_of, moved_one, cost_tally, rise_tally, fall_tally}
+use Rattle.slopes.specs.Tally.{tally_cong, tally_le, tally_balance, tally_append, tally_moved, rise_of, fall_of, moved_one, cost_tally, rise_tally, fall_tally}
 
 -- ---- of one change
 
@@ -114,7 +114,7 @@ moved_fall_of d y c = rw (moved_test d y c.at) refl
 pub cost_step : (cs : List Change) (y : ℕ) → cost cs (suc y) + fall cs (pos y) ≡ cost cs y + rise cs (pos y)
 cost_step cs y =
     rw (cost_tally cs (suc y), cost_tally cs y, fall_tally cs (pos y), rise_tally cs (pos y))
-    (tally-balance (λ c. cost_of c (suc y)) (fall_of (pos y)) (λ c. cost_of c y) (rise_of (pos y)) (step_of y) cs)
+    (tally_balance (λ c. cost_of c (suc y)) (fall_of (pos y)) (λ c. cost_of c y) (rise_of (pos y)) (step_of y) cs)
 
 pub rise_rises : (cs : List Change) (y z : ℤ) → y ≤ℤ z → rise cs y ≤ rise cs z
 rise_rises cs y z h = rw (rise_tally cs y, rise_tally cs z) (tally_le (rise_of y) (rise_of z) (rise_of_lem y z h) cs)

@@ -45,10 +45,10 @@ tally_add f g [] = refl
 tally_add f g (c ∷ cs) = omega (arith, tally_add f g cs)
 
 -- two sums of two, equal for each change, are equal for lists
-pub tally-balance :
+pub tally_balance :
     (f g h k : Change → ℕ) → ((c : Change) → f c + g c ≡ h c + k c)
     → (cs : List Change) → tally_of f cs + tally_of g cs ≡ tally_of h cs + tally_of k cs
-tally-balance f g h k e cs =
+tally_balance f g h k e cs =
     omega (arith, tally_add f g cs, tally_add h k cs, tally_cong (λ c. f c + g c) (λ c. h c + k c) e cs)
 
 pub tally_append : (f : Change → ℕ) (cs ds : List Change) → tally_of f (cs ++ ds) ≡ tally_of f cs + tally_of f ds

@@ -33,6 +33,7 @@ candidates_within limit cs z (Memᴰ.head e) = omega arith
 candidates_within limit cs z (Memᴰ.tail m) = go cs m
   where
     go : (ds : List Change) → Memᴰ z (map (λ (c : Change). clip limit c.at) ds) → z ≤ limit
+    go [] m = elim m [ ]
     go (d ∷ ds) (Memᴰ.head e) = omega arith
     go (d ∷ ds) (Memᴰ.tail m) = go ds m
 

@@ -164,6 +164,7 @@ held_none l c ps zero h = refl
 held_none l c ps (suc n) h = omega (arith, held_none l c ps n (omega arith), held_other l c ps n (λ (e : l ≡ n). omega arith))
 
 held_once : (l : ℕ) (c : Change) (ps : List ℕ) (n : ℕ) → l < n → sum (held_by l c ps) n ≡ cost_of c (get_or ps l 0)
+held_once l c ps zero h = elim h [ ]
 held_once l c ps (suc n) h =
     by_order n l
     (λ (g : n ≤ l).

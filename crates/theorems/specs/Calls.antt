@@ -186,7 +186,7 @@ module _ (row : List ℕ) (R : Row) (is : read_row row ≡ taken R) where
   unfolding measure_call measured
   measure_legal ps l =
       let n : length ps ≡ length R.widths = (legal_rises R ps l).0 in
-      let whole : length (site_bytes ps) ≡ 4 * length R.widths = omega (arith, Measured.bytes-length ps) in
+      let whole : length (site_bytes ps) ≡ 4 * length R.widths = omega (arith, Measured.bytes_length ps) in
       let sites : sites_from (site_bytes ps) 0 (length R.widths) ≡ ps = rw n at (sites_again ps (sites_small R sound ps l)) in
       rw (is, eq-eqb _ _ whole, sites, eq-eqb _ _ (no_overlap R ps l)) refl
 

@@ -37,7 +37,7 @@ goes_on_lem (Refused p) e q = absurd (q p refl)
 
 formed_reads : {e c : Reading} {s : List ℕ} → Formed e c s → read_from c s ≡ ended e []
 formed_reads {e} (ends {c} {s} is none same) = read_end c s is ∙ ap (ended c) none ∙ ap (λ (d : Reading). ended d []) same
-formed_reads {e} (goes {c} {s} r is not_end not-refused f) = read_more c s r is (goes_on_lem r not_end not-refused) ∙ formed_reads f
+formed_reads {e} (goes {c} {s} r is not_end not_refused f) = read_more c s r is (goes_on_lem r not_end not_refused) ∙ formed_reads f
 
 ends_fit : (e : Reading) → total e.widths ≤ e.head.width → ended e [] ≡ taken (row_of e)
 unfolding ended

@@ -1,7 +1,7 @@
 -- Measuring (document 01, "What the broker calls"): no cell overlaps where a placement is legal, a legal placement has bytes that say it, and
 -- the netlength of a legal placement of a row that was read is small.
 use Rattle.std.specs.Prelude.{ℕ, suc, ◌+◌, ◌*◌, ◌^◌, ◌≤◌, ◌<◌, ◌≡◌, refl, true, length, get_or, leb}
-use Rattle.std.proofs.Common.{sym, ap, ◌∙◌, ⊎_elim, arith, le-ltb, leb-true, length-append}
+use Rattle.std.proofs.Common.{sym, subst, ap, ◌∙◌, ⊎_elim, arith, le-ltb, leb-true, length-append}
 use mathlib.Core.List.Memᴰ.{cases_cons}
 use mathlib.Core.List.Memᴰ.{head as here}
 use mathlib.Core.List.Memᴰ.{not-nil}
@@ -53,8 +53,12 @@ unfolding sites_from site_bytes
 sites_after before [] small = refl
 sites_after before (p ∷ ps) small =
     let next : length before + 4 ≡ length (before ++ u32_bytes p) = sym (length-append before (u32_bytes p)) in
-    rw (u32_read_after before p (site_bytes ps) (small 0), next, ← append_assoc before (u32_bytes p) (site_bytes ps))
-    (ap (λ (l : List ℕ). p ∷ l) (sites_after (before ++ u32_bytes p) ps (λ i. small (suc i))))
+    let whole : (before ++ u32_bytes p) ++ site_bytes ps ≡ before ++ site_bytes (p ∷ ps) = append_assoc before (u32_bytes p) (site_bytes ps) in
+    let rest : sites_from (before ++ site_bytes (p ∷ ps)) (length before + 4) (length ps) ≡ ps =
+    subst (λ (s : List ℕ). sites_from s (length before + 4) (length ps) ≡ ps) whole
+    (subst (λ (k : ℕ). sites_from ((before ++ u32_bytes p) ++ site_bytes ps) k (length ps) ≡ ps) (sym next)
+    (sites_after (before ++ u32_bytes p) ps (λ i. small (suc i)))) in
+    rw (u32_read_after before p (site_bytes ps) (small 0)) (ap (λ (l : List ℕ). p ∷ l) rest)
 
 pub sites_again : (ps : List ℕ) → ((i : ℕ) → get_or ps i 0 < 4294967296) → sites_from (site_bytes ps) 0 (length ps) ≡ ps
 sites_again ps small = sites_after [] ps small

@@ -20,7 +20,7 @@ use Rattle.slopes.specs.Runs.{taken_most}
 use Rattle.nets.specs.OverlapLaws.{overlap_most, none_legal, sites_length}
 use Rattle.reading.specs.Sound.{Sound}
 use Rattle.reading.specs.SoundLaws.{sound_read}
-use Rattle.theorems.specs.Terms.{of_row, of_fresh, of_slice, of_placement, of_measure, EndsWell, with-result, with-refusal}
+use Rattle.theorems.specs.Terms.{of_row, of_fresh, of_slice, of_placement, of_measure, EndsWell, with_result, with_refusal}
 use Rattle.theorems.specs.Faults.{ReadWell, read_well}
 use Rattle.benches.specs.LegalLaws.{finished_legal}
 use Rattle.theorems.specs.Measured.{netlength_small}
@@ -31,13 +31,13 @@ use Rattle.theorems.specs.Measured.{netlength_small}
 by_row : (more : List Refusal) (held : List ℕ) (x : Read) (f : Row → Outcome) → ReadWell x → ((R : Row) → x ≡ taken R → EndsWell (of_row ++ more) held (f R))
     → EndsWell (of_row ++ more) held (with_row x held f)
 by_row more held (taken R) f w h = h R refl
-by_row more held (refused q place) f w h = with-refusal q place (in_front more w.0) w.1 refl
+by_row more held (refused q place) f w h = with_refusal q place (in_front more w.0) w.1 refl
 
 -- by one condition more
 by_given : (may : List Refusal) (held : List ℕ) (t : Bool) (q : Refusal) (next : Outcome) → In q may → (t ≡ true → EndsWell may held next)
     → EndsWell may held (given t held q next)
 by_given may held true q next m h = h refl
-by_given may held false q next m h = with-refusal q 0 m (omega arith) refl
+by_given may held false q next m h = with_refusal q 0 m (omega arith) refl
 
 read_then : (more : List Refusal) (held s : List ℕ) (f : Row → Outcome) → ((R : Row) → Sound R → EndsWell (of_row ++ more) held (f R))
     → EndsWell (of_row ++ more) held (with_row (read_row s) held f)
@@ -59,9 +59,9 @@ measured_well R s ps n = go (eqb (overlap R ps) (length R.widths)) refl
   where
     go : (t : Bool) → eqb (overlap R ps) (length R.widths) ≡ t
         → EndsWell of_measure [] (cond t (record { answer = netlength R ps; buffer = [] }) (refuse [] Overlap (overlap R ps)))
-    go true e = with-result (netlength_small R s ps (none_legal R ps n (eqb-true (overlap R ps) (length R.widths) e)))
+    go true e = with_result (netlength_small R s ps (none_legal R ps n (eqb-true (overlap R ps) (length R.widths) e)))
     go false e =
-        with-refusal Overlap (overlap R ps) (there (there (there (there (there (there (there (here refl))))))))
+        with_refusal Overlap (overlap R ps) (there (there (there (there (there (there (there (here refl))))))))
         (omega (arith, overlap_most R ps, s.few_cells)) refl
 
 -- ---- the calls
@@ -77,11 +77,11 @@ unfinished = there (there (there (there (there (there (there (there (here refl))
 
 pub check_ends : (row : List ℕ) → EndsWell of_row [] (check_call row)
 unfolding check_call
-check_ends row = read_then [] [] row (λ R. record { answer = length R.widths; buffer = [] }) (λ R s. with-result (omega (arith, s.few_cells)))
+check_ends row = read_then [] [] row (λ R. record { answer = length R.widths; buffer = [] }) (λ R s. with_result (omega (arith, s.few_cells)))
 
 pub fresh_ends : (bench : List ℕ) → EndsWell of_fresh bench (fresh_call bench)
 unfolding fresh_call
-fresh_ends bench = by_given of_fresh bench (eqb (length bench) bench_size) Room _ (here refl) (λ _. with-result (omega arith))
+fresh_ends bench = by_given of_fresh bench (eqb (length bench) bench_size) Room _ (here refl) (λ _. with_result (omega arith))
 
 pub slice_ends : (row bench : List ℕ) (budget : ℕ) → budget < 2 ^ 32 → EndsWell of_slice bench (slice_call row bench budget)
 unfolding slice_call
@@ -89,7 +89,7 @@ slice_ends row bench budget small =
     read_then (Room ∷ WrongBench ∷ []) bench row _
     (λ R s. by_given of_slice bench (eqb (length bench) bench_size) Room _ room
     (λ _. by_given of_slice bench (in_form R bench) WrongBench _ wrong_bench
-    (λ _. with-result (slice_small R budget (bench_of R bench) small))))
+    (λ _. with_result (slice_small R budget (bench_of R bench) small))))
 
 pub placement_ends : (row bench placement : List ℕ) → EndsWell of_placement placement (placement_call row bench placement)
 unfolding placement_call placed
@@ -99,7 +99,7 @@ placement_ends row bench placement =
     (λ _. by_given of_placement placement (eqb (length placement) (4 * length R.widths)) Room _ room
     (λ _. by_given of_placement placement (in_form R bench) WrongBench _ wrong_bench
     (λ form. by_given of_placement placement (finished R (bench_of R bench)) Unfinished _ unfinished
-    (λ end. with-result (netlength_small R s (positions R (bench_of R bench)) (finished_legal R bench form end)))))))
+    (λ end. with_result (netlength_small R s (positions R (bench_of R bench)) (finished_legal R bench form end)))))))
 
 pub measure_ends : (row placement : List ℕ) → EndsWell of_measure [] (measure_call row placement)
 unfolding measure_call

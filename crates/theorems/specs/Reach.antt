@@ -51,9 +51,11 @@ pub rest_first : (ws : List ℕ) (i k : ℕ) → i ≤ k → rest (take k ws) i 
 unfolding rest total
 rest_first [] zero zero h = refl
 rest_first [] zero (suc k) h = refl
+rest_first [] (suc i) zero h = absurd (omega arith)
 rest_first [] (suc i) (suc k) h = refl
 rest_first (w ∷ ws) zero zero h = omega arith
 rest_first (w ∷ ws) zero (suc k) h = omega (arith, rest_first ws 0 k (omega arith))
+rest_first (w ∷ ws) (suc i) zero h = absurd (omega arith)
 rest_first (w ∷ ws) (suc i) (suc k) h = rest_first ws i k (omega arith)
 
 -- the reach of cell i at position p

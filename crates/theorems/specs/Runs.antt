@@ -156,7 +156,7 @@ module _ (R : Row) (fits : total R.widths ≤ R.width) where
             (reach R a (left_of R c)) (reach R a (right_of R c)) h H best within w kept put);
         still = omega arith;
         no_later = λ i g.
-            Run.settles-no-later _ _ _ (cell R) _ _ _ _ (limits R fits) u firsts a b x
+            Run.settles_no_later _ _ _ (cell R) _ _ _ _ (limits R fits) u firsts a b x
             (reach R a (left_of R c)) (reach R a (right_of R c)) h H best within w kept put i (omega arith);
       }
     where

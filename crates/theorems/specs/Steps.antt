@@ -16,15 +16,15 @@ bench opened carried hand settled = record { opened = opened; hand = hand; settl
 module _ (R : Row) (P : Bench → Bench → Type 0)
     (opened : (k carried : ℕ) (settled : List Clump) → k < length R.widths
     → P (bench k carried empty settled) (bench (k + 1) carried (holding (single R k)) settled))
-    (joined-two : (k carried : ℕ) (c d : Clump) (settled : List Clump) → right_of R c < end_of (d ∷ settled)
+    (joined_two : (k carried : ℕ) (c d : Clump) (settled : List Clump) → right_of R c < end_of (d ∷ settled)
     → P (bench k carried (holding c) (d ∷ settled)) (bench k (carried + min (length d.changes) (length c.changes)) (holding (joined d c)) settled))
-    (settled-one : (k carried : ℕ) (c : Clump) (settled : List Clump) → end_of settled ≤ right_of R c
+    (settled_one : (k carried : ℕ) (c : Clump) (settled : List Clump) → end_of settled ≤ right_of R c
     → P (bench k carried (holding c) settled) (bench k carried empty (standing (max (end_of settled) (left_of R c)) c ∷ settled))) where
   by_join : (k carried : ℕ) (c : Clump) (settled : List Clump) → right_of R c < end_of settled
       → P (bench k carried (holding c) settled) (joins (bench k carried (holding c) settled) settled c)
   unfolding joins
   by_join k carried c [] h = absurd (omega arith)
-  by_join k carried c (d ∷ settled) h = joined-two k carried c d settled h
+  by_join k carried c (d ∷ settled) h = joined_two k carried c d settled h
 
   by_hand : (k carried : ℕ) (hand : Hand) (settled : List Clump) → finished_by R k hand ≡ false
       → P (bench k carried hand settled) (step_by R (bench k carried hand settled) hand)
@@ -35,7 +35,7 @@ module _ (R : Row) (P : Bench → Bench → Type 0)
       go : (t : Bool) → ltb (right_of R c) (end_of settled) ≡ t → P (bench k carried (holding c) settled)
           (cond t (joins (bench k carried (holding c) settled) settled c) (settles R (bench k carried (holding c) settled) c))
       go true e = by_join k carried c settled (ltb-true (right_of R c) (end_of settled) e)
-      go false e = settled-one k carried c settled (ltb-false (right_of R c) (end_of settled) e)
+      go false e = settled_one k carried c settled (ltb-false (right_of R c) (end_of settled) e)
 
   pub by_step : (b : Bench) → finished R b ≡ false → P b (step R b)
   unfolding finished step

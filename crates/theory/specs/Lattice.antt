@@ -59,6 +59,7 @@ leftmost_unique c lo hi n u u' A B i h = omega (arith, A.leftmost u' B.shortest 
 
 -- of two placements, one below the other, with the lower's sum no less, are one
 same_sum : (u r : ℕ → ℕ) (n : ℕ) → ((i : ℕ) → i < n → r i ≤ u i) → sum u n ≤ sum r n → (i : ℕ) → i < n → u i ≤ r i
+same_sum u r zero b s i h = elim h [ ]
 same_sum u r (suc n) b s i h =
     by_order n i (λ (g : n ≤ i). let e : i ≡ n = omega arith in rw e (omega (arith, sum_le r u n (λ j l. b j (omega arith)))))
     (λ (g : i < n). same_sum u r n (λ j l. b j (omega arith)) (omega (arith, b n (omega arith))) i g)

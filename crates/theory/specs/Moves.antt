@@ -52,7 +52,7 @@ module _ (f : ℕ → ℕ) (j m : ℕ) (u : ℕ → ℕ) where
       → (m < n → f (before lo u m) ≤ u m)
       → (m ≡ n → f (before lo u m) ≤ hi)
       → Legal lo hi n (moved f j m u)
-  moved_legal lo hi n jm mn L rises enters leaves leaves-end = record { mono = mono; within = within }
+  moved_legal lo hi n jm mn L rises enters leaves leaves_end = record { mono = mono; within = within }
     where
       mono : (i : ℕ) → i < n → before lo (moved f j m u) i ≤ moved f j m u i
       mono i h =
@@ -67,7 +67,7 @@ module _ (f : ℕ → ℕ) (j m : ℕ) (u : ℕ → ℕ) where
           (λ a d. omega (arith, outside i (λ _. omega arith), L.mono i h))
 
       within : before lo (moved f j m u) n ≤ hi
-      within = before_place lo n (λ a d. omega arith) (λ a b d. let k : m ≡ n = omega arith in omega (arith, (rw k at leaves-end) refl)) (λ a d. omega arith)
+      within = before_place lo n (λ a d. omega arith) (λ a b d. let k : m ≡ n = omega arith in omega (arith, (rw k at leaves_end) refl)) (λ a d. omega arith)
 
   -- the cost after the move, where each cell has a loss and a gain by it
   moved_cost : (c : ℕ → ℕ → ℕ) (loss gain : ℕ → ℕ) (n : ℕ) → j ≤ m → m ≤ n

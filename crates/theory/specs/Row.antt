@@ -34,6 +34,7 @@ module _ (P N : ℕ → ℕ → ℕ) (lo : ℕ) where
 
     -- inside a clump there is no room
     flat : (a b y : ℕ) → ((i : ℕ) → a ≤ i → i < b → u i ≡ y) → (m : ℕ) → a < m → m < b → before lo u m ≡ u m
+    flat a b y e zero p q = elim p [ ]
     flat a b y e (suc m) p q = e m (omega arith) (omega arith) ∙ sym (e (suc m) (omega arith) q)
 
     row_mono : {firsts : List ℕ} {k x : ℕ} → Row P N lo u firsts k x → (i : ℕ) → i < k → before lo u i ≤ u i

@@ -9,7 +9,7 @@ use borrow.Author.Rules.{rules}
 use borrow.Author.Tests.{not-true, not-false, ltb-true, leb-true}
 use Rattle.benches.specs.Fits.{edge_fits}
 use Rattle.benches.specs.BothLaws.{both_hold, both}
-use Rattle.benches.specs.PassedLaws.{Passed, passed_none, passed-more, passed-stop, passed-all}
+use Rattle.benches.specs.PassedLaws.{Passed, passed_none, passed_more, passed_stop, passed_all}
 use Rattle.benches.proofs.parts_of.Statement.{statement}
 use Rattle.benches.proofs.parts_of.Tie as tie
 use Rattle.benches.proofs.parts_of.Reads as reads
@@ -78,7 +78,7 @@ returns c =
     let count = c.before.before.before.u16-at in
     let edge = c.before.before.u32-at in
     let e = sym c.before.cells_fit.ensures ∙ not-true _ c.if1.true in (
-      passed-stop start.args.bench.now start.args.width start.args.starts.now start.args.head at-loop.before.settled-of.result l.invariant.0
+      passed_stop start.args.bench.now start.args.width start.args.starts.now start.args.head at-loop.before.settled-of.result l.invariant.0
           count.result edge.result count.ensures edge.ensures at-loop.before.settled-of.ensures (omega arith) start.requires.1.0.2 (rw e),
       (l.invariant.1, l.invariant.2),
     )
@@ -159,7 +159,7 @@ returns-2 c =
     ∙ ap₂ (λ (after within : Bool). edge_fits (ltb l.k settled) edge.result after within)
     c.before.before.before.before.before.ends_by.ensures c.before.before.ends-by2.ensures in
     let first_holds = sym mid.before.cells_fit.ensures ∙ not-false _ mid.if1.false in (
-      passed-stop start.args.bench.now start.args.width start.args.starts.now start.args.head settled l.invariant.0
+      passed_stop start.args.bench.now start.args.width start.args.starts.now start.args.head settled l.invariant.0
           count.result edge.result count.ensures edge.ensures at-loop.before.settled-of.ensures (omega arith) start.requires.1.0.2
           (rw (first_holds, sym told ∙ not-true _ c.if2.true)),
       (l.invariant.1, l.invariant.2),
@@ -197,7 +197,7 @@ loop-again c =
     ∙ ap₂ (λ (after within : Bool). edge_fits (ltb l.k settled) edge.result after within)
     c.before.before.before.before.before.ends_by.ensures c.before.before.ends-by2.ensures in
     let first_holds = sym mid.before.cells_fit.ensures ∙ not-false _ mid.if1.false in (
-      passed-more start.args.bench.now start.args.width start.args.starts.now start.args.head settled l.invariant.0
+      passed_more start.args.bench.now start.args.width start.args.starts.now start.args.head settled l.invariant.0
           count.result edge.result count.ensures edge.ensures (omega arith) (omega (arith, l.invariant.1)) (omega (arith, l.invariant.2))
           (both _ _ first_holds (sym told ∙ not-false _ c.if2.false)),
       length-set l.cells l.k count.result ∙ l.invariant.1,
@@ -214,7 +214,7 @@ returns-3 : tie.Need-returns-3 invariant-loop decreases-loop
 returns-3 c =
     let start = c.before.before.before.before.before.before.before in
     let l = c.before.loop in (
-      passed-all start.args.bench.now start.args.width start.args.starts.now start.args.head c.before.before.settled-of.result l.invariant.0
+      passed_all start.args.bench.now start.args.width start.args.starts.now start.args.head c.before.before.settled-of.result l.invariant.0
           c.before.before.settled-of.ensures (omega arith),
       (l.invariant.1, l.invariant.2),
     )

@@ -7,7 +7,7 @@ use mathlib.Core.Bool.{cond}
 use mir.Val.{bool_byte}
 use lib.ListN.{length, set, replicate, length-set}
 use Rattle.rules.specs.Sizes.{bench_size}
-use Rattle.benches.specs.StoreLaws.{bool_byte_lem, put16, put32, head-stored}
+use Rattle.benches.specs.StoreLaws.{bool_byte_lem, put16, put32, head_stored}
 use borrow.Author.Rules.{rules}
 use Rattle.benches.proofs.store_head.Statement.{statement}
 use Rattle.benches.proofs.store_head.Tie as tie
@@ -73,7 +73,7 @@ returns c =
     c.before.before.put-u32.ensures
     ∙ ap (λ (l : List ℕ). put32 7 start.args.carried.0 l) counted.put-u162.ensures
     ∙ ap (λ (l : List ℕ). put32 7 start.args.carried.0 (put16 5 start.args.clumps (set l 4 (bool_byte start.args.held)))) opened.put-u16.ensures
-    ∙ rw (zeros, bool_byte_lem) (head-stored start.args.opened (cond start.args.held 1 0) start.args.clumps start.args.carried.0)
+    ∙ rw (zeros, bool_byte_lem) (head_stored start.args.opened (cond start.args.held 1 0) start.args.clumps start.args.carried.0)
 
 pub store-head-spec : {M : Type 1} → statement M
 store-head-spec =

@@ -12,7 +12,7 @@ use Rattle.rules.specs.Calls.{sites_from}
 use Rattle.nets.specs.NetLists.{NetLists, lists_of, net_at, nets_to, room_less, nets_zero}
 use Rattle.nets.specs.Span.{length_by, span_at}
 use Rattle.measuring.specs.Measures.{Measurable}
-use Rattle.measuring.specs.Lengths.{left_inside, right_inside, ends_near, length-next, share-read-small, so_far_small}
+use Rattle.measuring.specs.Lengths.{left_inside, right_inside, ends_near, length_next, share_read_small, so_far_small}
 use Rattle.measuring.proofs.netlength.Statement.{statement}
 use Rattle.measuring.proofs.netlength.Tie as tie
 
@@ -65,7 +65,7 @@ share_small : (c : tie.After-span invariant-loop decreases-loop) → c.before.wi
 share_small c =
     let t = c.before.before.before.before.before.before.before.before in
     let s = start t in
-    rw (share c) (share-read-small (lists s) s.args.nets s.pre.0 s.args.placement.now s.pre.1 t.before.loop.k (omega arith))
+    rw (share c) (share_read_small (lists s) s.args.nets s.pre.0 s.args.placement.now s.pre.1 t.before.loop.k (omega arith))
 
 -- ---- the needs
 
@@ -138,7 +138,7 @@ loop-again c =
         arith,
         share c,
         l.invariant.1 ws m,
-        length-next (lists s) s.args.nets ws s.args.placement.now m l.k (omega arith),
+        length_next (lists s) s.args.nets ws s.args.placement.now m l.k (omega arith),
       )),
     )
 

@@ -180,10 +180,10 @@ returns-3 c R held =
     let a = s.args in
     let bench = a.bench.now in
     let w = written u R held in
-    let yes-form = form e.before R held in
-    placed_finished R bench a.placement.now yes-form (sites u) c.netlength.result (ends e R held) w
-    (c.netlength.ensures R.widths (after_measurable (sheet s) a.widths.now (nets-of s) R held bench yes-form (ends e R held) (sites u) w)
-    ∙ after_measured (sheet s) a.widths.now (nets-of s) R held bench yes-form (ends e R held) (sites u) w)
+    let yes_form = form e.before R held in
+    placed_finished R bench a.placement.now yes_form (sites u) c.netlength.result (ends e R held) w
+    (c.netlength.ensures R.widths (after_measurable (sheet s) a.widths.now (nets-of s) R held bench yes_form (ends e R held) (sites u) w)
+    ∙ after_measured (sheet s) a.widths.now (nets-of s) R held bench yes_form (ends e R held) (sites u) w)
 
 pub place-spec : {M : Type 1} → statement M
 place-spec =
