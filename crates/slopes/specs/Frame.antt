@@ -2,7 +2,7 @@
 -- (document 01, "The steps", join): the changes of consecutive cells lie side by side, and a clump's best interval is found in them.
 use Rattle.std.specs.Prelude.{◌≡◌, refl, List, [], ◌∷◌, ◌++◌, ℕ, zero, suc, ◌+◌, ◌≤◌, ◌<◌, get_or, take, ℤ, pos, ◌+ℤ◌, ◌-ℤ◌, ◌≤ℤ◌, ◌<ℤ◌}
 use Rattle.std.proofs.Common.{ap, sym, ◌∙◌, ⊎_elim, append-nil, append_assoc, add-zero, add-suc, arith}
-use Rattle.std.proofs.Math.IntN.{ -ℤ-+ℤ_cancel }
+use Rattle.std.proofs.Math.IntN.{ -ℤ-+ℤ_cancel}
 use Rattle.numbers.specs.Signed.{above, below}
 use Rattle.numbers.specs.SignedLaws.{one_part, add_parts, sub_parts, parts_le, le_parts, lt_parts, nonneg}
 use Rattle.rules.specs.Row.{Row}
