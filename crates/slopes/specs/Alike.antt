@@ -1,14 +1,11 @@
 -- The order of a list of changes is no part of it: lists that hold the same changes, so that every sum over their changes is the same,
 -- have the same cost, slope, sizes, number and best interval. A list that is kept sorted is such a list.
-use Rattle.std.specs.Prelude.{◌≡◌, refl, List, ◌++◌, ℕ, length, ℤ, pos}
+use Rattle.std.specs.Prelude.{◌≡◌, refl, List, ◌++◌, ℕ, length, ℤ}
 use Rattle.std.proofs.Common.{sym, ◌∙◌, arith}
-use Rattle.rules.specs.Changes.{Change, cost_of, cost, rise, fall, best_left, best_right}
+use Rattle.rules.specs.Changes.{Change, cost_of, cost, rise, fall}
 use Rattle.rules.specs.Steps.{moved}
 use Rattle.slopes.specs.Tally.{Same, rise_of, fall_of, moved_one, cost_tally, rise_tally, fall_tally, length_tally, tally_append, tally_moved}
 use Rattle.slopes.specs.Sizes.{size_to, sizes_to, need_of, need}
-use Rattle.slopes.specs.Cheapest.{Side, left, right}
-use Rattle.slopes.specs.Turn.{Turns}
-use Rattle.slopes.specs.Best.{best, best_is, best_turns}
 
 -- ---- how lists come to be the same
 
@@ -52,22 +49,3 @@ module _ (cs ds : List Change) (h : Same cs ds) where
 
   pub same_length : length cs ≡ length ds
   same_length = length_tally cs ∙ h (λ _. 1) ∙ sym (length_tally ds)
-
-  same_turns : (s : Side) (limit y : ℕ) → Turns s limit ds y → Turns s limit cs y
-  same_turns s limit y t =
-      record {
-        within = t.within;
-        below = λ v l. omega (arith, t.below v l, same_sizes (pos v), same_need);
-        turned = λ l. omega (arith, t.turned l, same_sizes (pos y), same_need);
-      }
-
-  pub same_best : (s : Side) (limit : ℕ) → best s limit cs ≡ best s limit ds
-  same_best s limit = best_is s limit cs (best s limit ds) (same_turns s limit (best s limit ds) (best_turns s limit ds))
-
-  pub same_best_left : (limit : ℕ) → best_left limit cs ≡ best_left limit ds
-  unfolding best best_left
-  same_best_left limit = same_best left limit
-
-  pub same_best_right : (limit : ℕ) → best_right limit cs ≡ best_right limit ds
-  unfolding best best_right
-  same_best_right limit = same_best right limit

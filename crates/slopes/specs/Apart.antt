@@ -13,7 +13,7 @@ use Rattle.rules.specs.Bench.{made, apart}
 use Rattle.slopes.specs.Best.{best_left_within, best_right_within}
 use Rattle.slopes.specs.Frame.{made_fits}
 use Rattle.slopes.specs.Runs.{run_keeps}
-use Rattle.slopes.specs.Forgotten.{both_left, both_right, cells_in, MadeAt, AllMade, all_clumps, Proper, step_proper}
+use Rattle.slopes.specs.Forgotten.{both_left, both_right, cells_in, MadeAt, AllMade, all_clumps, Proper}
 
 -- ---- apart by one limit and by another
 
@@ -97,11 +97,6 @@ step_opened R b e h = opened_by R b b.hand e h
 
 pub run_opened : (R : Row) (k : ℕ) (b : Bench) → b.opened ≤ length R.widths → (run R k b).opened ≤ length R.widths
 run_opened R k b h = run_keeps R (λ (c : Bench). c.opened ≤ length R.widths) (step_opened R) k b h
-
-pub run_apart : (R : Row) → total R.widths ≤ R.width → (k : ℕ) (b : Bench) → Proper R b → apart R.width b.settled ≡ true → apart R.width (run R k b).settled ≡ true
-run_apart R room k b p a =
-    (run_keeps R (λ (c : Bench). Proper R c × (apart R.width c.settled ≡ true))
-    (λ c e q. (step_proper R c q.0, step_apart R room c q.0 q.1)) k b (p, a)).1
 
 -- each clump has a cell
 few_clumps : (R : Row) (cs : List Clump) → AllMade R cs → length cs ≤ cells_in cs

@@ -18,8 +18,10 @@ use Rattle.rules.specs.declared.Refusal.TheVariants.{Unfinished}
 use Rattle.numbers.specs.Log.{whole_log}
 use Rattle.numbers.specs.LogLaws.{whole_log_zero, whole_log_low}
 use Rattle.slopes.specs.Runs.{run_zero, taken_zero, run_add, taken_add, run_past}
-use Rattle.slopes.specs.Apart.{run_opened, run_apart}
-use Rattle.slopes.specs.Forgotten.{Proper, fresh_proper, run_proper}
+use Rattle.slopes.specs.Apart.{run_opened}
+use Rattle.slopes.proofs.ApartLaws.{run_apart}
+use Rattle.slopes.specs.Forgotten.{Proper, fresh_proper}
+use Rattle.slopes.proofs.ForgottenLaws.{run_proper}
 use Rattle.benches.specs.AgainLaws.{said, back_and_there, bytes_length, left_in_form}
 use Rattle.reading.specs.Sound.{Sound}
 use Rattle.reading.specs.SoundLaws.{sound_read}

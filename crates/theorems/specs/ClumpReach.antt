@@ -10,7 +10,8 @@ use Rattle.rules.specs.Reading.{total}
 use Rattle.rules.specs.Changes.{Change, cost, best_left, best_right}
 use Rattle.rules.specs.Steps.{left_of, right_of}
 use Rattle.rules.specs.Bench.{made}
-use Rattle.slopes.specs.Best.{best_left_within, best_left_least, best_left_first, best_right_within, best_right_least, best_right_last}
+use Rattle.slopes.specs.Best.{best_left_within, best_right_within}
+use Rattle.slopes.proofs.BestLaws.{best_left_least, best_left_first, best_right_least, best_right_last}
 use Rattle.numbers.specs.Sums.{sum_to}
 use Rattle.slopes.specs.Joined.{changes_of, offset, made_cost}
 use Rattle.theory.specs.Sum.{over_none, over_one, over_join}
