@@ -28,7 +28,7 @@ module _ (c : After-finished) where
   test_is R b w n laid stands =
       c.finished.ensures
       ∙ finished_is R c.args.count layout c.loop-steps.bench lists (run R c.loop-steps.steps b) n
-          (c.loop-steps.invariant.stands R b w n laid stands).0
+      (c.loop-steps.invariant.stands R b w n laid stands).0
 
 pub step-bench-requires : goal.step-bench-requires
 step-bench-requires c =
@@ -52,10 +52,10 @@ loop-steps-preserved c = record {
   within = omega arith;
   stands =
       λ R b w n laid stands.
-          let t = (goal.at.loop-steps-preserved c).After-finished in
-          let old = c.loop-steps.invariant.stands R b w n laid stands in
-          let f = sym (test_is t R b w n laid stands) ∙ c.if-not-finished.true in
-          (rw (run_next R c.loop-steps.steps b f) (c.step-bench.ensures R (run R c.loop-steps.steps b) w laid old.0 f), taken_next R c.loop-steps.steps b f old.1);
+      let t = (goal.at.loop-steps-preserved c).After-finished in
+      let old = c.loop-steps.invariant.stands R b w n laid stands in
+      let f = sym (test_is t R b w n laid stands) ∙ c.if-not-finished.true in
+      (rw (run_next R c.loop-steps.steps b f) (c.step-bench.ensures R (run R c.loop-steps.steps b) w laid old.0 f), taken_next R c.loop-steps.steps b f old.1);
 }
 
 pub returns-else-not-finished : goal.returns-else-not-finished

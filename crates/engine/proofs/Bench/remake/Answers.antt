@@ -125,12 +125,12 @@ loop-k-preserved c = record {
   within = omega (arith, c.loop-k-test.true);
   heaps =
       λ needs R b laid numbers roomy.
-          let m = (goal.at.loop-k-preserved c).After-made-kept in
-          let old = c.loop-k.invariant.heaps needs R b laid numbers roomy in
-          rw c.wide.ensures
-          (clump_more R _ laid c.args.self (lists (goal.at.loop-k-preserved c).In-loop-k) b numbers
-          (roomy_same R _ _ _ _ c.loop-k.auto.sizes c.loop-k.auto.sums c.loop-k.auto.keys roomy) c.loop-k.k c.loop-k-test.true c.loop-k.first old.0
-          c.made-kept.new.keys c.made-kept.result (heap m) c.made-kept.ensures.filled.1 (aside m) old.1);
+      let m = (goal.at.loop-k-preserved c).After-made-kept in
+      let old = c.loop-k.invariant.heaps needs R b laid numbers roomy in
+      rw c.wide.ensures
+      (clump_more R _ laid c.args.self (lists (goal.at.loop-k-preserved c).In-loop-k) b numbers
+      (roomy_same R _ _ _ _ c.loop-k.auto.sizes c.loop-k.auto.sums c.loop-k.auto.keys roomy) c.loop-k.k c.loop-k-test.true c.loop-k.first old.0
+      c.made-kept.new.keys c.made-kept.result (heap m) c.made-kept.ensures.filled.1 (aside m) old.1);
 }
 
 -- ---- the clump in hand, once all settled clumps have their heaps
