@@ -1,7 +1,7 @@
 -- `run`: the test says of the bench that the run so far leaves whether that is finished, and a step more is a run of one step more.
-use Rattle.std.proofs.Common.{ℕ, ◌≡◌, true, false, length, refl, sym, ◌∙◌, arith}
+use Rattle.std.proofs.Common.{◌≡◌, length, sym, ◌∙◌, arith}
 use Rattle.rules.specs.Row.{Row}
-use Rattle.rules.specs.Steps.{Bench as Meant, finished, run, steps_taken}
+use Rattle.rules.specs.Steps.{Bench as Meant, finished, run}
 use Rattle.slopes.specs.Runs.{run_zero, taken_zero, run_past, taken_past}
 use Rattle.engine.specs.Laid.{Layout, layout_of, Laid}
 use Rattle.engine.specs.Stands.{Lists, lists_of, Stands}

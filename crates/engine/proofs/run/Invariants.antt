@@ -1,5 +1,5 @@
 -- `run`: after so many turns the lists stand for the bench that a run of as many steps leaves, and each of them was taken.
-use Rattle.std.proofs.Common.{ℕ, ◌≡◌, ◌≤◌, ◌-◌, length}
+use Rattle.std.proofs.Common.{◌≡◌, ◌≤◌, ◌-◌, length}
 use Rattle.rules.specs.Row.{Row}
 use Rattle.rules.specs.Steps.{Bench as Meant, run, steps_taken}
 use Rattle.engine.specs.Laid.{layout_of, Laid}

@@ -1,7 +1,6 @@
 -- `remake`: what the next clump asks holds by the bench that was loaded, and its heap is one more; the clump in hand is the last.
-use Rattle.std.proofs.Common.{ℕ, ◌≡◌, ◌+◌, ◌<◌, ◌≤◌, List, length, get_or, refl, arith}
+use Rattle.std.proofs.Common.{ℕ, ◌≡◌, ◌+◌, ◌<◌, ◌≤◌, length, get_or, refl, arith}
 use Rattle.rules.specs.Sizes.{most_cells}
-use Rattle.rules.specs.Row.{Row}
 use Rattle.slopes.specs.Forgotten.{cells_in}
 use Rattle.changes.specs.Fills.{Filled, Outside}
 use Rattle.changes.specs.FillLaws.{filled_few}
