@@ -1,6 +1,6 @@
 -- `load`: the head, then the zero bytes, then the clumps; what is not in form is answered so as soon as it is seen.
-use Rattle.std.proofs.Common.{◌≡◌, ◌+◌, ◌*◌, ◌≤◌, ℕ, refl, sym, ap, ◌∙◌, drop, arith}
-use Rattle.rules.specs.Sizes.{head_size, part_size, bench_size}
+use Rattle.std.proofs.Common.{◌≡◌, ◌+◌, ◌*◌, ℕ, refl, sym, ap, ◌∙◌, drop, arith}
+use Rattle.rules.specs.Sizes.{head_size, part_size}
 use Rattle.rules.specs.Bench.{saved_hand, saved_clumps, all_zero}
 use Rattle.benches.specs.declared.Saved.{Saved}
 use Rattle.benches.specs.FitsLaws.{Head, head_told}

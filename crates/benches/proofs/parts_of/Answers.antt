@@ -1,5 +1,5 @@
 -- `parts_of`: the clump at hand fits, and there is one more; or it does not, and the bytes are not in form.
-use Rattle.std.proofs.Common.{◌≡◌, ◌+◌, ◌-◌, cond, Bool, refl, sym, ap₂, ◌∙◌, arith, length-set, nat_lt}
+use Rattle.std.proofs.Common.{Bool, refl, sym, ap₂, ◌∙◌, arith, length-set, nat_lt}
 use Rattle.benches.specs.Fits.{edge_fits}
 use Rattle.benches.specs.BothLaws.{both}
 use Rattle.benches.specs.PassedLaws.{passed_none, passed_more, passed_stop}

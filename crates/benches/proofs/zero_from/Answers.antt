@@ -1,5 +1,5 @@
 -- `zero_from`: the byte at hand is 0, and one less is left to test, or it is not, and then not all are 0.
-use Rattle.std.proofs.Common.{◌≡◌, ◌+◌, ◌<◌, ℕ, ⊎_elim, ◌⊎◌, refl, sym, ap, ◌∙◌, max, length, drop, get_or, arith, eq-or-lt_of_le, ne_eqb, eq-eqb}
+use Rattle.std.proofs.Common.{◌≡◌, ◌<◌, ℕ, ⊎_elim, ◌⊎◌, sym, ap, ◌∙◌, max, length, drop, get_or, arith, eq-or-lt_of_le, ne_eqb, eq-eqb}
 use Rattle.rules.specs.Bench.{all_zero}
 use Rattle.benches.specs.ZeroLaws.{zero_more, zero_stop, zero_end}
 use Rattle.benches.proofs.zero_from.Goals as goal
