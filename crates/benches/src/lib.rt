@@ -50,6 +50,7 @@ fn has_mark(bench: &[u8]) -> bool
 }
 
 // Each number of the head within its limit.
+#[tactic(auto, unfolding(crate::specs::Fits::counts_fit))]
 fn counts_fit(count: usize, opened: usize, hand: usize, clumps: usize, carried: u32) -> bool
     ensures { result ≡ counts_fit count opened hand clumps carried }
 {

@@ -26,7 +26,7 @@ zero_from-requires c =
     (c.requires.bench_len.0, omega (arith, clumps_are d, (head-holds d).few))
 
 zeros_are : (c : After-zero_from) → let s = c.args.bench.now in c.zero_from.result ≡ all_zero (drop (head_size + part_size * saved_clumps s) s)
-zeros_are c = 
+zeros_are c =
     let s = c.args.bench.now in
     c.zero_from.ensures ∙ ap (λ (n : ℕ). all_zero (drop (head_size + part_size * n) s)) (ap (λ (x : Saved). x.clumps) c.head_of-head.ensures)
 
