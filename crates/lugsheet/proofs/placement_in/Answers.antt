@@ -1,5 +1,6 @@
 -- `placement_in` meets its promise, by what reading the row and placing promise.
 use Rattle.std.proofs.Common.{◌≡◌, ℕ, ◌*◌, length, ap, sym, ◌∙◌}
+use borrow.Author.Tests.{not-true, not-false}
 use Rattle.rules.specs.Reading.{read_row, taken}
 use Rattle.rules.specs.Row.{Row}
 use Rattle.nets.specs.NetLists.{NetLists, lists_of}
@@ -45,7 +46,7 @@ returns-then-not-p c =
     let room = c.if-placement-cells.false ∙ ap (λ (n : ℕ). 4 * n) t.1.1.cells in
     let o =
         told_by
-        (call_unformed c.args.row.now c.args.bench.now c.args.placement.now c.place-p.new.placement t.0 c.place-p.result t.1.0 c.if-bench-ne-BENCH_SIZE.false room p c.if-not-p.true)
+        (call_unformed c.args.row.now c.args.bench.now c.args.placement.now c.place-p.new.placement t.0 c.place-p.result t.1.0 c.if-bench-ne-BENCH_SIZE.false room p (not-true _ c.if-not-p.true))
     in
     record { value = c.refused-then-not-p.ensures ∙ o.0; placement_after = o.1 }
 
@@ -57,7 +58,7 @@ returns-then-not-p-2 c =
     let room = c.if-placement-cells.false ∙ ap (λ (n : ℕ). 4 * n) t.1.1.cells in
     let o =
         told_by
-        (call_unfinished c.args.row.now c.args.bench.now c.args.placement.now c.place-p.new.placement t.0 c.place-p.result t.1.0 c.if-bench-ne-BENCH_SIZE.false room p c.if-not-p.false c.if-not-p-2.true)
+        (call_unfinished c.args.row.now c.args.bench.now c.args.placement.now c.place-p.new.placement t.0 c.place-p.result t.1.0 c.if-bench-ne-BENCH_SIZE.false room p (not-false _ c.if-not-p.false) (not-true _ c.if-not-p-2.true))
     in
     record { value = c.refused-then-not-p-2.ensures ∙ o.0; placement_after = o.1 }
 
@@ -69,6 +70,6 @@ returns c =
     let room = c.if-placement-cells.false ∙ ap (λ (n : ℕ). 4 * n) t.1.1.cells in
     let o =
         told_by
-        (call_placed c.args.row.now c.args.bench.now c.args.placement.now c.place-p.new.placement t.0 c.place-p.result t.1.0 c.if-bench-ne-BENCH_SIZE.false room p c.if-not-p-2.false)
+        (call_placed c.args.row.now c.args.bench.now c.args.placement.now c.place-p.new.placement t.0 c.place-p.result t.1.0 c.if-bench-ne-BENCH_SIZE.false room p (not-false _ c.if-not-p-2.false))
     in
     record { value = o.0; placement_after = o.1 }

@@ -1,5 +1,6 @@
 -- `slice_in` meets its promise, by what reading the row and the slice promise.
 use Rattle.std.proofs.Common.{◌≡◌, sym, ◌∙◌}
+use borrow.Author.Tests.{not-true, not-false}
 use Rattle.rules.specs.Reading.{read_row, taken}
 use Rattle.rules.specs.Row.{Row}
 use Rattle.nets.specs.NetLists.{NetLists, lists_of}
@@ -35,7 +36,7 @@ returns-then-not-s c =
     let d = (goal.at.returns-then-not-s c).In_default in
     let t = the_row d in
     let p = c.slice-s.ensures t.0 (holds_parts c.read_row-h.result c.read_row-h.new.widths (nets d) t.0 t.1.1) in
-    let form = sym p.form ∙ c.if-not-s.true in
+    let form = sym p.form ∙ not-true _ c.if-not-s.true in
     let o = told_by (slice_form c.args.row.now c.args.bench.now c.args.budget t.0 t.1.0 c.if-bench-ne-BENCH_SIZE.false form) in
     record { value = c.refused-then-not-s.ensures ∙ o.0; bench_after = p.kept form ∙ o.1 }
 
@@ -44,7 +45,7 @@ returns c =
     let d = (goal.at.returns c).In_default in
     let t = the_row d in
     let p = c.slice-s.ensures t.0 (holds_parts c.read_row-h.result c.read_row-h.new.widths (nets d) t.0 t.1.1) in
-    let form = sym p.form ∙ c.if-not-s.false in
+    let form = sym p.form ∙ not-false _ c.if-not-s.false in
     let o =
         told_by
         (slice_done c.args.row.now c.args.bench.now c.args.budget t.0 t.1.0 c.if-bench-ne-BENCH_SIZE.false form
