@@ -45,8 +45,8 @@ returns-then-not-p c =
     let p = c.place-p.ensures t.0 (holds_parts c.read_row-h.result c.read_row-h.new.widths (nets d) t.0 t.1.1) in
     let room = c.if-placement-cells.false ∙ ap (λ (n : ℕ). 4 * n) t.1.1.cells in
     let o =
-        told_by
-        (call_unformed c.args.row.now c.args.bench.now c.args.placement.now c.place-p.new.placement t.0 c.place-p.result t.1.0 c.if-bench-ne-BENCH_SIZE.false room p (not-true _ c.if-not-p.true))
+    told_by
+    (call_unformed c.args.row.now c.args.bench.now c.args.placement.now c.place-p.new.placement t.0 c.place-p.result t.1.0 c.if-bench-ne-BENCH_SIZE.false room p (not-true _ c.if-not-p.true))
     in
     record { value = c.refused-then-not-p.ensures ∙ o.0; placement_after = o.1 }
 
@@ -57,8 +57,8 @@ returns-then-not-p-2 c =
     let p = c.place-p.ensures t.0 (holds_parts c.read_row-h.result c.read_row-h.new.widths (nets d) t.0 t.1.1) in
     let room = c.if-placement-cells.false ∙ ap (λ (n : ℕ). 4 * n) t.1.1.cells in
     let o =
-        told_by
-        (call_unfinished c.args.row.now c.args.bench.now c.args.placement.now c.place-p.new.placement t.0 c.place-p.result t.1.0 c.if-bench-ne-BENCH_SIZE.false room p (not-false _ c.if-not-p.false) (not-true _ c.if-not-p-2.true))
+    told_by
+    (call_unfinished c.args.row.now c.args.bench.now c.args.placement.now c.place-p.new.placement t.0 c.place-p.result t.1.0 c.if-bench-ne-BENCH_SIZE.false room p (not-false _ c.if-not-p.false) (not-true _ c.if-not-p-2.true))
     in
     record { value = c.refused-then-not-p-2.ensures ∙ o.0; placement_after = o.1 }
 
@@ -69,7 +69,7 @@ returns c =
     let p = c.place-p.ensures t.0 (holds_parts c.read_row-h.result c.read_row-h.new.widths (nets d) t.0 t.1.1) in
     let room = c.if-placement-cells.false ∙ ap (λ (n : ℕ). 4 * n) t.1.1.cells in
     let o =
-        told_by
-        (call_placed c.args.row.now c.args.bench.now c.args.placement.now c.place-p.new.placement t.0 c.place-p.result t.1.0 c.if-bench-ne-BENCH_SIZE.false room p (not-false _ c.if-not-p-2.false))
+    told_by
+    (call_placed c.args.row.now c.args.bench.now c.args.placement.now c.place-p.new.placement t.0 c.place-p.result t.1.0 c.if-bench-ne-BENCH_SIZE.false room p (not-false _ c.if-not-p-2.false))
     in
     record { value = o.0; placement_after = o.1 }

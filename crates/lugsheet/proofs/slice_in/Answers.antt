@@ -47,8 +47,8 @@ returns c =
     let p = c.slice-s.ensures t.0 (holds_parts c.read_row-h.result c.read_row-h.new.widths (nets d) t.0 t.1.1) in
     let form = sym p.form ∙ not-false _ c.if-not-s.false in
     let o =
-        told_by
-        (slice_done c.args.row.now c.args.bench.now c.args.budget t.0 t.1.0 c.if-bench-ne-BENCH_SIZE.false form
-        ∙ sym (advanced_outcome t.0 c.args.budget c.args.bench.now c.slice-s.new.bench c.slice-s.result (p.moves form)))
+    told_by
+    (slice_done c.args.row.now c.args.bench.now c.args.budget t.0 t.1.0 c.if-bench-ne-BENCH_SIZE.false form
+    ∙ sym (advanced_outcome t.0 c.args.budget c.args.bench.now c.slice-s.new.bench c.slice-s.result (p.moves form)))
     in
     record { value = c.sliced_answer.ensures ∙ o.0; bench_after = o.1 }
