@@ -1,4 +1,4 @@
-// The calls that the broker makes, exported for C. Each promises, for every input, its one u64 and every byte of the buffer that it was lent,
+// The calls that the broker makes; lugsheet_c exports them for C. Each promises, for every input, its one u64 and every byte of the buffer that it was lent,
 // by the definitions of the crate `rules` (specs/Calls.antt). No call has a `requires`: no caller is trusted.
 #![tactic(auto)]
 
@@ -127,8 +127,7 @@ fn check_long(row: &[u8]) -> u64
 }
 
 // The number of cells of a row.
-#[unsafe(no_mangle)]
-pub extern "C" fn lugsheet_check(row: &[u8]) -> u64
+pub fn lugsheet_check(row: &[u8]) -> u64
     ensures answer { result ≡ (check_call row.now).answer }
 {
     if is_small(row) {
@@ -207,8 +206,7 @@ fn measure_long(row: &[u8], placement: &[u8]) -> u64
 }
 
 // The netlength of a placement of a row.
-#[unsafe(no_mangle)]
-pub extern "C" fn lugsheet_measure(row: &[u8], placement: &[u8]) -> u64
+pub fn lugsheet_measure(row: &[u8], placement: &[u8]) -> u64
     ensures answer { result ≡ (measure_call row.now placement.now).answer }
 {
     if is_small(row) {
@@ -220,8 +218,7 @@ pub extern "C" fn lugsheet_measure(row: &[u8], placement: &[u8]) -> u64
 // ---- fresh
 
 // Makes the lent bench a fresh one.
-#[unsafe(no_mangle)]
-pub extern "C" fn lugsheet_fresh(bench: &mut [u8]) -> u64
+pub fn lugsheet_fresh(bench: &mut [u8]) -> u64
     ensures answer { result ≡ (fresh_call bench.old).answer }
     ensures buffer { bench.new ≡ (fresh_call bench.old).buffer }
 {
@@ -377,8 +374,7 @@ fn slice_long(row: &[u8], bench: &mut [u8], budget: u32) -> u64
 }
 
 // Takes at most `budget` steps on the lent bench.
-#[unsafe(no_mangle)]
-pub extern "C" fn lugsheet_slice(row: &[u8], bench: &mut [u8], budget: u32) -> u64
+pub fn lugsheet_slice(row: &[u8], bench: &mut [u8], budget: u32) -> u64
     ensures answer { result ≡ (slice_call row.now bench.old budget).answer }
     ensures buffer { bench.new ≡ (slice_call row.now bench.old budget).buffer }
 {
@@ -489,8 +485,7 @@ fn placement_long(row: &[u8], bench: &[u8], placement: &mut [u8]) -> u64
 }
 
 // Writes the positions that a finished bench gives.
-#[unsafe(no_mangle)]
-pub extern "C" fn lugsheet_placement(row: &[u8], bench: &[u8], placement: &mut [u8]) -> u64
+pub fn lugsheet_placement(row: &[u8], bench: &[u8], placement: &mut [u8]) -> u64
     ensures answer { result ≡ (placement_call row.now bench.now placement.old).answer }
     ensures buffer { placement.new ≡ (placement_call row.now bench.now placement.old).buffer }
 {
