@@ -13,7 +13,8 @@ use Rattle.slopes.specs.Frame.{packed}
 use Rattle.slopes.specs.Turn.{by_order}
 use Rattle.slopes.specs.Sizes.{need}
 use Rattle.slopes.specs.Best.{best_left_within, best_right_within}
-use Rattle.slopes.specs.Reach.{sizes_before, left_not_right, left_not_left, right_not_left, right_left}
+use Rattle.slopes.specs.Reach.{sizes_before}
+use Rattle.slopes.proofs.ReachLaws.{left_not_right, left_not_left, right_not_left, right_left}
 use Rattle.slopes.specs.Forgotten.{cells_in, MadeAt, AllMade}
 use Rattle.changes.specs.Fills.{lefts}
 use Rattle.engine.specs.Laid.{held_before, Layout, Laid}

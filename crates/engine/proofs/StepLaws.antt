@@ -14,7 +14,8 @@ use Rattle.rules.specs.Bench.{apart}
 use Rattle.slopes.specs.Frame.{packed}
 use Rattle.slopes.specs.Turn.{by_order}
 use Rattle.slopes.specs.Sizes.{need}
-use Rattle.slopes.specs.Forgotten.{cells_in, Proper, step_proper}
+use Rattle.slopes.specs.Forgotten.{cells_in, Proper}
+use Rattle.slopes.proofs.ForgottenLaws.{step_proper}
 use Rattle.slopes.specs.Apart.{step_apart, proper_clumps}
 use Rattle.changes.specs.Fills.{Filled, Outside}
 use Rattle.changes.specs.Steps.{JoinedAs}
