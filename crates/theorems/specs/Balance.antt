@@ -2,7 +2,7 @@
 -- A net's span is fr - fl, plus what its pin on R lies right of fr, plus what its pin on L lies left of fl; times the weight these two are
 -- the costs of its two changes, and each change is held by one cell.
 use Rattle.std.specs.Prelude.{ℕ, zero, suc, ◌+◌, ◌-◌, ◌*◌, ◌≤◌, ◌<◌, ◌≡◌, refl, Bool, true, false, cond, length, get_or, eqb, ℤ, pos, ◌-ℤ◌}
-use Rattle.std.proofs.Common.{ap, ⊎_elim, eq-eqb, ne_eqb}
+use Rattle.std.proofs.Common.{⊎_elim, eq-eqb, ne_eqb}
 use mathlib.Core.List.Memᴰ.{head as here}
 use mathlib.Core.List.Memᴰ.{tail as there}
 use mathlib.Core.List.{List, [], ◌∷◌, ◌++◌, Memᴰ as In}
@@ -11,7 +11,7 @@ use Rattle.std.specs.Int.Signed.{lt_z}
 use Rattle.numbers.specs.Signed.{above, below}
 use Rattle.numbers.specs.SignedLaws.{one_part, neg_above, neg_below, sub_parts, lin_lt, lin_nlt}
 use Rattle.rules.specs.Row.{Net, Row, counted}
-use Rattle.rules.specs.Length.{legal_from, legal, smaller, larger, span, length_of, netlength}
+use Rattle.rules.specs.Length.{legal_from, smaller, larger, span}
 use Rattle.rules.specs.Changes.{Change, least, greatest, offsets_on, left_cell, right_cell, left_offset, right_offset, left_fixed, right_fixed, fixed_of, left_change, right_change, changes_on, cost_of, cost}
 use Rattle.slopes.specs.Slope.{cost_append}
 use Rattle.nets.specs.Summary.{summary}
@@ -22,7 +22,7 @@ use Rattle.reading.specs.Sound.{Sound}
 use Rattle.reading.specs.ReadsLaws.{sound_tied}
 use Rattle.theory.specs.Sum.{sum, sum_cong, sum_add}
 use Rattle.theory.specs.Order.{by_order}
-use Rattle.theorems.specs.Shortest.{costs_to, cell_costs, Balanced}
+use Rattle.theorems.specs.Shortest.{costs_to, cell_costs}
 
 -- ---- the ends of a span
 
@@ -77,10 +77,10 @@ unfolding left_offset right_offset
 same_cell t e = rw e (least_greatest (offsets_on (right_cell t) (counted t.pins)))
 
 -- the costs of a net's two changes, each on the cell that holds it
-unfoldable left_cost : ℕ → List ℕ → Net → ℕ
+unfoldable pub left_cost : ℕ → List ℕ → Net → ℕ
 left_cost W ps t = cost_of (left_change W t) (get_or ps (left_cell t) 0)
 
-unfoldable right_cost : List ℕ → Net → ℕ
+unfoldable pub right_cost : List ℕ → Net → ℕ
 right_cost ps t = cost_of (right_change t) (get_or ps (right_cell t) 0)
 
 module _ (W : ℕ) (ps : List ℕ) (t : Net) where
@@ -97,15 +97,15 @@ module _ (W : ℕ) (ps : List ℕ) (t : Net) where
   abbrev right_over : ℕ
   right_over = above (pos (get_or ps (right_cell t) 0) -ℤ (fr -ℤ pos (right_offset t)))
 
-  left_cost_lem : left_cost W ps t ≡ t.weight * left_over
+  pub left_cost_lem : left_cost W ps t ≡ t.weight * left_over
   unfolding left_cost cost_of left_change
   left_cost_lem = rw (neg_above (pos t.weight), neg_below (pos t.weight)) (omega arith)
 
-  right_cost_lem : right_cost ps t ≡ t.weight * right_over
+  pub right_cost_lem : right_cost ps t ≡ t.weight * right_over
   unfolding right_cost cost_of right_change
   right_cost_lem = omega arith
 
-  net_span : (ws : List ℕ) → Tied ws t → Kept ws (summary W t) → legal_from W 0 ws ps ≡ true
+  pub net_span : (ws : List ℕ) → Tied ws t → Kept ws (summary W t) → legal_from W 0 ws ps ≡ true
       → span ps t + (below fr + above fl) ≡ above fr + below fl + (right_over + left_over)
   unfolding span_by span_at summary
   net_span ws tied kept l =
@@ -113,37 +113,11 @@ module _ (W : ℕ) (ps : List ℕ) (t : Net) where
       (span_parts fl fr (get_or ps (left_cell t) 0) (left_offset t) (get_or ps (right_cell t) 0) (right_offset t)
       (pins_in_order W ws ps l (left_cell t) (left_offset t) (right_cell t) (right_offset t) kept.ordered kept.right_cell kept.left_offset (same_cell t)))
 
--- weight times span, less the two costs, is the same in all legal placements
-net_balance : (W : ℕ) (ws ps qs : List ℕ) (t : Net) → Tied ws t → Kept ws (summary W t) → legal_from W 0 ws ps ≡ true → legal_from W 0 ws qs ≡ true
-    → t.weight * span ps t + (left_cost W qs t + right_cost qs t) ≡ t.weight * span qs t + (left_cost W ps t + right_cost ps t)
-net_balance W ws ps qs t tied kept l m =
-    omega (
-      arith,
-      left_cost_lem W ps t,
-      left_cost_lem W qs t,
-      right_cost_lem W ps t,
-      right_cost_lem W qs t,
-      ap (λ (n : ℕ). t.weight * n) (net_span W ps t ws tied kept l),
-      ap (λ (n : ℕ). t.weight * n) (net_span W qs t ws tied kept m),
-    )
-
 -- ---- all nets
 
-unfoldable net_costs : ℕ → List ℕ → List Net → ℕ
+unfoldable pub net_costs : ℕ → List ℕ → List Net → ℕ
 net_costs W ps [] = 0
 net_costs W ps (t ∷ ts) = left_cost W ps t + right_cost ps t + net_costs W ps ts
-
-nets_balance : (W : ℕ) (ws ps qs : List ℕ) (ts : List Net) → ((t : Net) → In t ts → Tied ws t × Kept ws (summary W t))
-    → legal_from W 0 ws ps ≡ true → legal_from W 0 ws qs ≡ true
-    → length_of ps ts + net_costs W qs ts ≡ length_of qs ts + net_costs W ps ts
-unfolding length_of net_costs
-nets_balance W ws ps qs [] tied l m = refl
-nets_balance W ws ps qs (t ∷ ts) tied l m =
-    omega (
-      arith,
-      net_balance W ws ps qs t (tied t (here refl)).0 (tied t (here refl)).1 l m,
-      nets_balance W ws ps qs ts (λ u n. tied u (there n)) l m,
-    )
 
 -- ---- each change is held by one cell
 
@@ -210,11 +184,7 @@ module _ (R : Row) (s : Sound R) where
   pub sound_kept : (t : Net) → In t R.nets → Tied R.widths t × Kept R.widths (summary R.width t)
   sound_kept t m = (sound_tied R s t m, tied_kept R.width R.widths t s.wide (sound_tied R s t m))
 
-  costs_nets : (ps : List ℕ) → cell_costs R ps ≡ net_costs R.width ps R.nets
+  pub costs_nets : (ps : List ℕ) → cell_costs R ps ≡ net_costs R.width ps R.nets
   unfolding cell_costs costs_to summary
   costs_nets ps =
       cells_nets R.width (length R.widths) ps R.nets (λ t m. ((sound_kept t m).1.left_cell, (sound_kept t m).1.right_cell))
-
-  pub balanced : Balanced R
-  unfolding netlength legal
-  balanced ps qs l m = rw (costs_nets ps, costs_nets qs) (nets_balance R.width R.widths ps qs R.nets sound_kept l m)

@@ -93,6 +93,3 @@ module _ (R : Row) where
 
   pub most_steps_end : finished R (run R (most_steps (length R.widths)) fresh) ≡ true
   most_steps_end = run_ends (most_steps (length R.widths)) fresh (omega (arith, fresh_ahead))
-
-  pub no_cells_no_steps : (k : ℕ) → length R.widths ≡ 0 → steps_taken R k fresh ≡ 0
-  no_cells_no_steps k e = omega (arith, steps_most k)

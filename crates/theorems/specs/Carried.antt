@@ -8,14 +8,14 @@ use Rattle.numbers.specs.Log.{whole_log}
 use Rattle.numbers.specs.LogLaws.{whole_log_zero, whole_log_low, whole_log_high}
 use Rattle.rules.specs.Row.{Net, Row}
 use Rattle.rules.specs.Changes.{Change, left_cell, right_cell, left_change, right_change, changes_on}
-use Rattle.rules.specs.Steps.{Clump, empty, holding, Bench, single, moved, joined, standing, end_of, left_of, step, finished, run, carried_bound}
+use Rattle.rules.specs.Steps.{Clump, empty, holding, Bench, single, moved, joined, standing, end_of, left_of, step, finished, run}
 use Rattle.rules.specs.Bench.{fresh}
 use Rattle.slopes.specs.Joined.{changes_of, moved_length}
 use Rattle.slopes.specs.Forgotten.{all_clumps}
 use Rattle.slopes.specs.Runs.{run_keeps}
-use Rattle.theory.specs.Sum.{sum, sum_add, sum_cong, over_split}
+use Rattle.theory.specs.Sum.{sum, sum_add, sum_cong}
 use Rattle.theorems.specs.Steps.{bench, by_step}
-use Rattle.theory.specs.Counts.{IsLog, allowance, allowance_mono, join_allowed}
+use Rattle.theory.specs.Counts.{IsLog, allowance, join_allowed}
 
 -- ---- the changes of all cells
 
@@ -58,7 +58,7 @@ net_length W i t ts =
     refl
 
 -- each net has two
-changes_most : (W n : ℕ) (ts : List Net) → sum (λ i. length (changes_on W i ts)) n ≤ 2 * length ts
+pub changes_most : (W n : ℕ) (ts : List Net) → sum (λ i. length (changes_on W i ts)) n ≤ 2 * length ts
 unfolding changes_on
 changes_most W n [] = no_changes n
   where
@@ -78,18 +78,18 @@ changes_most W n (t ∷ ts) =
 
 -- ---- what clumps hold, and have paid for
 
-log_laws : IsLog whole_log
+pub log_laws : IsLog whole_log
 log_laws = record { at_zero = whole_log_zero; low = whole_log_low; high = λ N _. rw (add-one (whole_log N)) at (whole_log_high N) }
 
-unfoldable changes_in : List Clump → ℕ
+unfoldable pub changes_in : List Clump → ℕ
 changes_in [] = 0
 changes_in (c ∷ cs) = length c.changes + changes_in cs
 
-unfoldable paid_in : List Clump → ℕ
+unfoldable pub paid_in : List Clump → ℕ
 paid_in [] = 0
 paid_in (c ∷ cs) = allowance whole_log (length c.changes) + paid_in cs
 
-paid_most : (cs : List Clump) → paid_in cs ≤ allowance whole_log (changes_in cs)
+pub paid_most : (cs : List Clump) → paid_in cs ≤ allowance whole_log (changes_in cs)
 unfolding paid_in changes_in
 paid_most [] = omega arith
 paid_most (c ∷ cs) = omega (arith, paid_most cs, join_allowed whole_log log_laws (length c.changes) (changes_in cs))
@@ -99,10 +99,10 @@ unfolding joined
 joined_length d c = omega (arith, length-append d.changes (moved d.width c.changes), moved_length d.width c.changes)
 
 -- the clumps hold the changes of the opened cells, and what was carried is paid for
-record Paid (R : Row) (b : Bench) : Type 0 where
-  opened_most : b.opened ≤ length R.widths
-  held : changes_in (all_clumps b.hand b.settled) ≡ sum (λ i. length (changes_of R i)) b.opened
-  paid : b.carried ≤ paid_in (all_clumps b.hand b.settled)
+pub record Paid (R : Row) (b : Bench) : Type 0 where
+  pub opened_most : b.opened ≤ length R.widths
+  pub held : changes_in (all_clumps b.hand b.settled) ≡ sum (λ i. length (changes_of R i)) b.opened
+  pub paid : b.carried ≤ paid_in (all_clumps b.hand b.settled)
 
 -- ---- one step
 
@@ -135,32 +135,9 @@ module _ (R : Row) where
 
   -- ---- runs
 
-  run_paid : (k : ℕ) (b : Bench) → Paid R b → Paid R (run R k b)
+  pub run_paid : (k : ℕ) (b : Bench) → Paid R b → Paid R (run R k b)
   run_paid = run_keeps R (Paid R) step_paid
 
-  fresh_paid : Paid R fresh
+  pub fresh_paid : Paid R fresh
   unfolding fresh changes_in paid_in
   fresh_paid = record { opened_most = omega arith; held = refl; paid = omega arith }
-
-  pub carried_most : (k : ℕ) → (run R k fresh).carried ≤ carried_bound (length R.nets)
-  carried_most k = go (run R k fresh) (run_paid k fresh fresh_paid)
-    where
-      go : (b : Bench) → Paid R b → b.carried ≤ carried_bound (length R.nets)
-      go b p =
-          let held : changes_in (all_clumps b.hand b.settled) ≤ 2 * length R.nets =
-          omega (
-            arith,
-            p.held,
-            over_split (λ i. length (changes_of R i)) b.opened (length R.widths) p.opened_most,
-            changes_most R.width (length R.widths) R.nets,
-          )
-          in
-          omega (
-            arith,
-            p.paid,
-            paid_most (all_clumps b.hand b.settled),
-            allowance_mono whole_log log_laws (changes_in (all_clumps b.hand b.settled)) (2 * length R.nets) held,
-          )
-
-  pub no_nets_none_carried : (k : ℕ) → length R.nets ≡ 0 → (run R k fresh).carried ≡ 0
-  no_nets_none_carried k e = omega (arith, rw e at (carried_most k))

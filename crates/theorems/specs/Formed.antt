@@ -1,13 +1,11 @@
 -- Too full (demand 2): well-formed bytes are taken where their row has a legal placement, and refused with 6 where it has none; and bytes that
 -- are taken, or refused with 6, are well-formed.
-use Rattle.std.specs.Prelude.{ℕ, zero, suc, ◌≤◌, ◌<◌, ◌≡◌, refl, ◌↔◌, List, [], ◌∷◌, reverse, Bool, true, false, length, drop}
+use Rattle.std.specs.Prelude.{ℕ, zero, suc, ◌≤◌, ◌<◌, ◌≡◌, refl, List, [], ◌∷◌, reverse, Bool, true, false, length, drop}
 use Rattle.std.proofs.Common.{sym, ap, ◌∙◌, arith, le-leb, ne_eqb}
 use Rattle.std.proofs.lemmas.Bool.{lt-leb}
 use Rattle.rules.specs.Row.{Row}
-use Rattle.rules.specs.Length.{legal}
 use Rattle.rules.specs.Records.{Reading, record_at, takes}
 use Rattle.rules.specs.Reading.{Read, taken, refused, start, after, total, ended, by_record, read_up_to, read_from, read_row}
-use Rattle.rules.specs.Calls.{packed}
 use Rattle.rules.specs.declared.Refusal.{Refusal}
 use Rattle.rules.specs.declared.Refusal.TheVariants.{Cut, WrongMark, Tail, Range, Lonely, Full, Room, WrongBench, Unfinished, Overlap}
 use Rattle.rules.specs.declared.Record.{Record}
@@ -15,7 +13,6 @@ use Rattle.rules.specs.declared.Record.TheVariants.{Rw, Ce, Nt, Fp, Mp, En, Refu
 use Rattle.reading.specs.ReadingLaws.{goes_on, read_more, read_end}
 use Rattle.theory.specs.Order.{by_order}
 use Rattle.theorems.specs.LegalReach.{no_truth}
-use Rattle.theorems.specs.Full.{legal_fits, fits_legal}
 use Rattle.theorems.specs.Faults.{Fault, cut, mark, range, lone, record_fault}
 use Rattle.theorems.specs.Terms.{Formed, ends, goes, WellFormed}
 
@@ -48,7 +45,7 @@ unfolding ended
 ends_full e h = rw (lt-leb (total e.widths) e.head.width h) refl
 
 -- a row is not both
-both_ways : {X : Type 0} (x : Read) (R : Row) (q : Refusal) (place : ℕ) → x ≡ taken R → x ≡ refused q place → X
+pub both_ways : {X : Type 0} (x : Read) (R : Row) (q : Refusal) (place : ℕ) → x ≡ taken R → x ≡ refused q place → X
 both_ways x R q place e f = let z : ◌≡◌ {A = ℕ} 0 1 = cc in absurd (omega arith)
 
 module _ (s : List ℕ) (R : Row) (place : ℕ) (w : WellFormed s R place) where
@@ -56,29 +53,11 @@ module _ (s : List ℕ) (R : Row) (place : ℕ) (w : WellFormed s R place) where
   unfolding read_row
   reads = formed_reads w.formed
 
-  fits_taken : total R.widths ≤ R.width → read_row s ≡ taken R
+  pub fits_taken : total R.widths ≤ R.width → read_row s ≡ taken R
   fits_taken h = rw w.row (reads ∙ ends_fit w.read (rw w.row at h))
 
-  full_refused : R.width < total R.widths → read_row s ≡ refused Full place
+  pub full_refused : R.width < total R.widths → read_row s ≡ refused Full place
   full_refused h = rw w.end (reads ∙ ends_full w.read (rw w.row at h))
-
-  pub taken_exactly : (read_row s ≡ taken R) ↔ ((ps : List ℕ) × (legal R ps ≡ true))
-  taken_exactly = (
-    λ e.
-        by_order (total R.widths) R.width
-        (λ h. (packed 0 (length R.widths) R.widths, fits_legal R h))
-        (λ h. both_ways (read_row s) R Full place e (full_refused h)),
-    λ l. fits_taken (legal_fits R l.0 l.1),
-  )
-
-  pub full_exactly : (read_row s ≡ refused Full place) ↔ ((ps : List ℕ) → legal R ps ≡ true → ⊥)
-  full_exactly = (
-    λ e ps l. both_ways (read_row s) R Full place (fits_taken (legal_fits R ps l)) e,
-    λ none.
-        by_order (total R.widths) R.width
-        (λ h. absurd (none (packed 0 (length R.widths) R.widths) (fits_legal R h)))
-        full_refused,
-  )
 
 -- ---- backwards
 

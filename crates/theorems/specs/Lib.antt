@@ -1,5 +1,5 @@
--- The three demands as theorems (Demands, in the words of Terms), what they rest on, and what they shut out: one concept a file, each file
--- resting on those above it.
+-- What the three demands speak of (Terms), and the laws that they rest on: one concept a file, each file resting on those above it. The demands
+-- themselves, and the laws that rest on a statement which an edit must break, are in proofs/.
 pub mod Reach
 pub mod LegalReach
 pub mod ClumpReach
@@ -14,10 +14,6 @@ pub mod Balance
 pub mod Terms
 pub mod Faults
 pub mod Formed
-pub mod Ending
 pub mod Slices
 pub mod Measured
-pub mod Outcomes
-pub mod Calls
-pub mod Demands
 pub mod ShutOut

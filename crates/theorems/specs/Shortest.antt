@@ -5,14 +5,13 @@ use Rattle.std.proofs.Common.{sym, length-take-le}
 use Rattle.std.specs.Prelude.{List, reverse, true, get_or, take}
 use Prim.Native.Nat.{ℕ, suc, pred, ◌+◌, ◌≤◌, ◌<◌}
 use native.Mathlib.Omega.{arith}
-use borrow.Author.Tests.{leb-true}
 use Rattle.std.proofs.Math.ListN.{length, get_or-eq_default}
 use Rattle.std.proofs.Math.Seq.{take-length}
 use Rattle.rules.specs.Row.{Row}
 use Rattle.rules.specs.Reading.{total}
 use Rattle.rules.specs.Length.{legal_from, legal, netlength}
 use Rattle.rules.specs.Changes.{cost, changes_on}
-use Rattle.rules.specs.Steps.{Clump, Hand, empty, holding, Bench, finished_by, finished, run}
+use Rattle.rules.specs.Steps.{Clump, empty, Bench, run}
 use Rattle.rules.specs.Bench.{fresh}
 use Rattle.rules.specs.Calls.{positions_in, positions}
 use Rattle.slopes.specs.Runs.{run_add}
@@ -20,12 +19,10 @@ use Rattle.theory.specs.Order.{by_order}
 use Rattle.theory.specs.Sum.{sum, sum_cong}
 use Rattle.theory.specs.Placement.{Legal, Shortest, Leftmost}
 use Rattle.theory.specs.Placement as Placement
-use Rattle.theory.specs.Row.{row_cong}
 use Rattle.theory.specs.Walls.{room}
-use Rattle.theory.specs.Run.{settled_leftmost}
-use Rattle.theorems.specs.Reach.{rest, rest_all, rest_first, reach, reach_cost, lows, highs, cell, limits, reach_cost_lem}
+use Rattle.theorems.specs.Reach.{rest, rest_all, rest_first, reach, reach_cost, lows, highs, limits, reach_cost_lem}
 use Rattle.theorems.specs.LegalReach.{reaches_of, legal_cong, legal_reaches, reaches_legal, legal_rises}
-use Rattle.theorems.specs.Runs.{State, resting, Later, now, placed_cells, opened_most, run_later, moment}
+use Rattle.theorems.specs.Runs.{State, resting, Later, now, placed_cells, run_later, moment}
 use Rattle.theorems.specs.Positions.{Placed, stand_placed}
 
 -- the costs of the first k cells at these positions, and of all cells
@@ -51,7 +48,7 @@ pub record BestPlaced (R : Row) (ps : List ℕ) : Type 0 where
 -- ---- legal and cost, by the theory
 
 module _ (R : Row) (fits : total R.widths ≤ R.width) (k : ℕ) (h : k ≤ length R.widths) where
-  abbrev reaches : List ℕ → ℕ → ℕ
+  abbrev pub reaches : List ℕ → ℕ → ℕ
   reaches ps i = reach R i (get_or ps i 0)
 
   abbrev lo : ℕ
@@ -92,7 +89,7 @@ module _ (R : Row) (fits : total R.widths ≤ R.width) (k : ℕ) (h : k ≤ leng
   costs_theory ps = sum_cong (λ i. cost (changes_on R.width i R.nets) (get_or ps i 0)) (λ i. reach_cost R i (reaches ps i)) k (λ i _. reach_cost_lem R i (get_or ps i 0))
 
   -- the theory's leftmost placement, as positions
-  leftmost_best : (ps : List ℕ) → length ps ≡ k → Leftmost (reach_cost R) (lows R 0) (highs R (pred k)) k (reaches ps) → BestTo R k ps
+  pub leftmost_best : (ps : List ℕ) → length ps ≡ k → Leftmost (reach_cost R) (lows R 0) (highs R (pred k)) k (reaches ps) → BestTo R k ps
   leftmost_best ps n B =
       record {
         is_legal = from_theory ps n B.shortest.legal;
@@ -111,7 +108,7 @@ module _ (R : Row) (fits : total R.widths ≤ R.width) (k : ℕ) (h : k ≤ leng
 -- ---- moments with nothing in hand, and the end
 
 -- the first n cells are all cells
-all_best : (R : Row) (ps : List ℕ) → BestTo R (length R.widths) ps → BestPlaced R ps
+pub all_best : (R : Row) (ps : List ℕ) → BestTo R (length R.widths) ps → BestPlaced R ps
 unfolding legal cell_costs
 all_best R ps B =
     record {
@@ -132,23 +129,6 @@ module _ (R : Row) (fits : total R.widths ≤ R.width) where
   resting_placed : (u : ℕ → ℕ) (k : ℕ) (settled : List Clump) → State R u k empty settled → Placed R u k (positions_in R.widths (reverse settled))
   resting_placed u k settled (resting firsts x h s S) = stand_placed R u s h
 
-  resting_best : (u : ℕ → ℕ) (k : ℕ) (settled : List Clump) → State R u k empty settled → BestTo R k (positions_in R.widths (reverse settled))
-  resting_best u k settled (resting firsts x h s S) =
-      leftmost_best R fits k h ps placed.count
-      (settled_leftmost _ _ _ (cell R) _ _ _ _ (limits R fits) (reaches R fits k h ps) firsts k x h
-      (row_cong _ _ (lows R 0) u (reaches R fits k h ps) S placed.at_reach))
-    where
-      ps : List ℕ
-      ps = positions_in R.widths (reverse settled)
-
-      placed : Placed R u k ps
-      placed = stand_placed R u s h
-
-  -- whenever nothing is in hand
-  pub prefix_best : (k : ℕ) → (run R k fresh).hand ≡ empty → BestTo R (run R k fresh).opened (positions R (run R k fresh))
-  unfolding positions
-  prefix_best k e = resting_best (moment R fits k).by (run R k fresh).opened (run R k fresh).settled (rw e at (moment R fits k).state)
-
   -- from each such moment to a later one no cell that was settled moves right
   left_of_lem : (b c : Bench) (u : ℕ → ℕ) → b.hand ≡ empty → c.hand ≡ empty → State R u b.opened b.hand b.settled
       → Later R u (placed_cells b.opened b.hand) c → (i : ℕ) → i < b.opened → get_or (positions R c) i 0 ≤ get_or (positions R b) i 0
@@ -167,20 +147,6 @@ module _ (R : Row) (fits : total R.widths ≤ R.width) where
       (left_of_lem (run R j fresh) (run R k (run R j fresh)) (moment R fits j).by e (rw (run_add R j k fresh) at f) (moment R fits j).state
       (run_later R fits (moment R fits j).by (placed_cells (run R j fresh).opened (run R j fresh).hand) k (run R j fresh) (now R (run R j fresh) (moment R fits j).by (moment R fits j).state))
       i g)
-
-  ended_best : (u : ℕ → ℕ) (k : ℕ) (hand : Hand) (settled : List Clump) → finished_by R k hand ≡ true → State R u k hand settled
-      → BestPlaced R (positions_in R.widths (reverse settled))
-  unfolding finished_by
-  ended_best u k empty settled f s =
-      let e : k ≡ length R.widths = omega (arith, leb-true (length R.widths) k f, opened_most R u s) in
-      all_best R (positions_in R.widths (reverse settled)) (rw e at (resting_best u k settled s))
-  ended_best u k (holding c) settled f s = let z : ◌≡◌ {A = ℕ} 0 1 = cc in absurd (omega arith)
-
-  -- at the end
-  pub finished_best : (k : ℕ) → finished R (run R k fresh) ≡ true → BestPlaced R (positions R (run R k fresh))
-  unfolding positions finished
-  finished_best k f =
-      ended_best (moment R fits k).by (run R k fresh).opened (run R k fresh).hand (run R k fresh).settled f (moment R fits k).state
 
 -- ---- netlength
 

@@ -1,14 +1,14 @@
 -- Slices of a run from a fresh bench (demand 3): each takes the smaller of its budget and the steps left, and leaves the bench that the published
 -- steps give after that many.
 use Prim.Native.Nat.{ℕ, zero, suc, ◌≤◌, min}
-use Rattle.std.specs.Prelude.{◌≡◌, ◌↔◌, Bool, length}
+use Rattle.std.specs.Prelude.{◌≡◌, Bool, length}
 use Rattle.std.proofs.Math.Path.{refl}
 use Rattle.std.proofs.Math.Bool.{true, false}
 use Rattle.std.proofs.Common.{arith}
 use Rattle.rules.specs.Row.{Row}
 use Rattle.rules.specs.Steps.{Bench, step, finished, run, steps_taken, most_steps}
 use Rattle.rules.specs.Bench.{fresh}
-use Rattle.slopes.specs.Runs.{run_zero, taken_zero, run_finished, taken_finished, run_more, taken_more, taken_most, run_past}
+use Rattle.slopes.specs.Runs.{run_zero, taken_zero, run_finished, taken_finished, run_more, taken_more, taken_most}
 use Rattle.theorems.specs.Bounds.{ahead, fresh_ahead, taken_ahead, run_ends, slice_takes, slice_leaves}
 use Rattle.theorems.specs.Terms.{steps, steps_left}
 
@@ -35,20 +35,14 @@ module _ (R : Row) where
   most_ends k = run_ends R most (run R k fresh) (ahead_most k)
 
   -- and so after the steps left
-  left_ends : (k : ℕ) → finished R (run R (steps_left R (run R k fresh)) (run R k fresh)) ≡ true
+  pub left_ends : (k : ℕ) → finished R (run R (steps_left R (run R k fresh)) (run R k fresh)) ≡ true
   unfolding steps_left
   left_ends k = rw (← slice_leaves R most (run R k fresh)) (most_ends k)
 
   -- but not before
-  left_needed : (k budget : ℕ) → finished R (run R budget (run R k fresh)) ≡ true → steps_left R (run R k fresh) ≤ budget
+  pub left_needed : (k budget : ℕ) → finished R (run R budget (run R k fresh)) ≡ true → steps_left R (run R k fresh) ≤ budget
   unfolding steps_left
   left_needed k budget f = omega (arith, slice_takes R most budget (run R k fresh) f, taken_most R budget (run R k fresh))
-
-  pub finished_exactly : (k budget : ℕ) → (finished R (run R budget (run R k fresh)) ≡ true) ↔ (steps_left R (run R k fresh) ≤ budget)
-  finished_exactly k budget = (
-    left_needed k budget,
-    λ h. rw (run_past R (steps_left R (run R k fresh)) budget (run R k fresh) h (left_ends k)) (left_ends k),
-  )
 
   pub slice_takes_least : (k budget : ℕ) → steps_taken R budget (run R k fresh) ≡ min budget (steps_left R (run R k fresh))
   unfolding steps_left

@@ -1,6 +1,6 @@
 -- Every call ends well (demand 1): a law for each way in which a call goes on (by the row that was read, by one condition more), a bound for
 -- each result, and then the five calls.
-use Rattle.std.specs.Prelude.{ℕ, ◌+◌, ◌*◌, ◌^◌, ◌≤◌, ◌<◌, ◌≡◌, refl, Bool, true, false, cond, length, eqb}
+use Rattle.std.specs.Prelude.{ℕ, ◌*◌, ◌^◌, ◌≤◌, ◌<◌, ◌≡◌, refl, Bool, true, false, cond, length, eqb}
 use mathlib.Core.List.Memᴰ.{append_left as in_front}
 use mathlib.Core.List.Memᴰ.{head as here}
 use mathlib.Core.List.Memᴰ.{tail as there}

@@ -27,7 +27,7 @@ use Rattle.reading.specs.Sound.{Sound}
 use Rattle.reading.specs.SoundLaws.{sound_read}
 use Rattle.theory.specs.Order.{by_order}
 use Rattle.theorems.specs.Bounds.{most_steps_end}
-use Rattle.theorems.specs.Carried.{carried_most}
+use Rattle.theorems.proofs.CarriedLaws.{carried_most}
 use Rattle.theorems.specs.LegalReach.{legal_rises}
 use Rattle.theorems.specs.Measured.{no_overlap, sites_again, sites_small}
 use Rattle.theorems.specs.Measured as Measured

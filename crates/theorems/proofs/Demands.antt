@@ -15,13 +15,16 @@ use Rattle.rules.specs.declared.Refusal.{Refusal}
 use Rattle.rules.specs.declared.Refusal.TheVariants.{Full, Unfinished}
 use Rattle.reading.specs.SoundLaws.{sound_read}
 use Rattle.theorems.specs.Terms.{LeftmostShortest, WellFormed, steps, steps_left, bench_after, steps_answered, EndsWell, of_row, of_fresh, of_slice, of_placement, of_measure}
-use Rattle.theorems.specs.Bounds.{steps_most, most_steps_end, no_cells_no_steps}
-use Rattle.theorems.specs.Carried.{carried_most, no_nets_none_carried}
-use Rattle.theorems.specs.Formed.{taken_exactly, full_exactly, taken_formed, full_formed}
-use Rattle.theorems.specs.Ending.{run_ends_leftmost, only_one}
-use Rattle.theorems.specs.Slices.{run_steps, slice_takes_least, finished_exactly}
-use Rattle.theorems.specs.Outcomes.{check_ends, fresh_ends, slice_ends, placement_ends, measure_ends, in_upper_half, told_apart}
-use Rattle.theorems.specs.Calls.{bench_after_lem, slice_after, steps_answered_lem, carried_after, odd_finished, placement_finished, placement_unfinished, measure_legal, enough_finished}
+use Rattle.theorems.specs.Bounds.{steps_most, most_steps_end}
+use Rattle.theorems.proofs.BoundsLaws.{no_cells_no_steps}
+use Rattle.theorems.proofs.CarriedLaws.{carried_most, no_nets_none_carried}
+use Rattle.theorems.specs.Formed.{taken_formed, full_formed}
+use Rattle.theorems.proofs.FormedLaws.{taken_exactly, full_exactly}
+use Rattle.theorems.proofs.Ending.{run_ends_leftmost, only_one}
+use Rattle.theorems.specs.Slices.{run_steps, slice_takes_least}
+use Rattle.theorems.proofs.SlicesLaws.{finished_exactly}
+use Rattle.theorems.proofs.Outcomes.{check_ends, fresh_ends, slice_ends, placement_ends, measure_ends, in_upper_half, told_apart}
+use Rattle.theorems.proofs.Calls.{bench_after_lem, slice_after, steps_answered_lem, carried_after, odd_finished, placement_finished, placement_unfinished, measure_legal, enough_finished}
 
 -- ---- demand 1: every call, on every input, ends with a result or one of its numbered refusals, and then the buffer holds what it held
 

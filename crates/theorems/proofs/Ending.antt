@@ -8,8 +8,9 @@ use Rattle.rules.specs.Bench.{fresh}
 use Rattle.rules.specs.Calls.{positions}
 use Rattle.reading.specs.Sound.{Sound}
 use Rattle.theorems.specs.LegalReach.{legal_rises}
-use Rattle.theorems.specs.Shortest.{ShortestPlaced, best_shortest, finished_best}
-use Rattle.theorems.specs.Balance.{balanced}
+use Rattle.theorems.specs.Shortest.{ShortestPlaced, best_shortest}
+use Rattle.theorems.proofs.ShortestLaws.{finished_best}
+use Rattle.theorems.proofs.BalanceLaws.{balanced}
 use Rattle.theorems.specs.Terms.{LeftmostShortest}
 
 pub run_ends_leftmost : (R : Row) → Sound R → (k : ℕ) → finished R (run R k fresh) ≡ true → LeftmostShortest R (positions R (run R k fresh))
