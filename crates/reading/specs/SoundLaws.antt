@@ -1,6 +1,6 @@
 -- A row that is taken is sound: what has been read so far is good, each record that may stand next keeps it so, and EN closes the last
 -- net. Also how far a reading can come: every record is counted once, so its place stays small.
-use Rattle.std.specs.Prelude.{ℕ, zero, suc, ◌+◌, ◌*◌, ◌≤◌, ◌<◌, ◌≡◌, refl, Bool, true, false, cond, not, length, get_or, drop, eqb, leb}
+use Rattle.std.specs.Prelude.{ℕ, zero, suc, ◌+◌, ◌*◌, ◌≤◌, ◌<◌, ◌≡◌, refl, Bool, true, false, cond, length, get_or, drop, eqb, leb}
 use Rattle.std.proofs.Common.{zero-le, subst, arith, leb-true}
 use mathlib.Core.List.{List, [], ◌∷◌, ◌++◌, reverse, reverse-cons}
 use Rattle.std.proofs.lemmas.List.{length-reverse}

@@ -4,7 +4,6 @@ use Rattle.std.specs.Prelude.{ℕ, ◌+◌, ◌≤◌, ◌<◌, ◌≡◌, List,
 use Rattle.std.proofs.Math.Path.{refl, sym}
 use Rattle.std.proofs.Common.{ap, ◌∙◌, subst, arith}
 use Rattle.std.proofs.Math.ListN.{length, length-set}
-use Rattle.rules.specs.Row.{on}
 use Rattle.rules.specs.Records.{Reading, record_at, takes}
 use Rattle.rules.specs.Reading.{start, after, total, read_from, read_row}
 use Rattle.rules.specs.declared.Refusal.{Refusal}

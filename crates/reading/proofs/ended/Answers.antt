@@ -1,6 +1,5 @@
 -- The record after which none follows: refused, or EN with the tail (3), the widths (6), and else the row.
-use Rattle.std.proofs.Common.{◌≡◌, ◌∙◌, sym, arith, length, drop}
-use Rattle.records.specs.Within.{within_small}
+use Rattle.std.proofs.Common.{◌≡◌, ◌∙◌, sym, length, drop}
 use Rattle.reading.specs.ReadingLaws.{record_fits}
 use Rattle.reading.specs.Underway.{refusal_of, end_or_refused}
 use Rattle.reading.specs.Ending.{says_refused, says_tail, says_full, says_taken}
