@@ -1,5 +1,5 @@
 -- `netlength` meets its contract: one net more adds its weight times its span, which is small, so the sum fits.
-use Rattle.std.proofs.Common.{ℕ, ◌+◌, ◌*◌, ◌≤◌, ◌≡◌, refl, arith, add-one}
+use Rattle.std.proofs.Common.{◌*◌, ◌≤◌, ◌≡◌, refl, arith, add-one}
 use Rattle.numbers.specs.Bytes.{u32_at}
 use Rattle.rules.specs.Sizes.{widest, heaviest}
 use Rattle.nets.specs.NetLists.{lists_of, net_at, nets_zero}
