@@ -1,31 +1,28 @@
 -- What each part of a step asks, of a bench that the numbers and lists stand for, with a clump in hand or without.
-use Prim.Native.Nat.{ℕ, ◌+◌, ◌-◌, ◌*◌, ◌^◌, ◌≤◌, ◌<◌}
+use Prim.Native.Nat.{ℕ, ◌+◌, ◌-◌, ◌≤◌, ◌<◌}
 use mathlib.Core.Path.{◌≡◌, refl, ap, sym, subst, ◌∙◌}
-use mathlib.Core.Bool.{true, false}
 use mathlib.Core.Logic.{◌⊎◌, ⊎_elim, inl, inr}
 use mathlib.Core.List.{List, [], ◌∷◌}
 use native.Mathlib.Omega.{arith}
 use lib.ListN.{length, get_or}
-use borrow.Author.Tests.{eq-eqb, ne_eqb, leb-false}
+use borrow.Author.Tests.{eq-eqb, ne_eqb}
 use Rattle.rules.specs.Row.{Row}
-use Rattle.rules.specs.Steps.{Clump, Hand, empty, holding, Bench as Meant, end_of, right_of, finished_by, finished, step}
+use Rattle.rules.specs.Steps.{Clump, Hand, empty, holding, Bench as Meant, end_of, right_of}
 use Rattle.slopes.specs.Frame.{packed, packed_most}
 use Rattle.slopes.specs.Sizes.{need}
 use Rattle.slopes.specs.Forgotten.{cells_in}
 use Rattle.slopes.specs.Apart.{apart_end, proper_clumps}
-use Rattle.changes.specs.Fills.{Weighed, Filled, Outside}
+use Rattle.changes.specs.Fills.{Weighed}
 use Rattle.changes.specs.FillLaws.{filled_few, filled_counted}
-use Rattle.changes.specs.declared.Kept.{Kept}
 use Rattle.engine.specs.Laid.{held_before, held_rises, held_most, Layout, Laid}
 use Rattle.engine.specs.Stands.{Lists, stand_of, limit_of, Stands}
-use Rattle.engine.specs.Taken.{last_of, first_of_last, stand_of_last, HasLast, with_hand, Makes, MadeAs, Sure, FoundAs, Seeks, FindsAs, Joins, Settles}
+use Rattle.engine.specs.Taken.{stand_of_last, HasLast, with_hand, Makes, MadeAs, Sure, Seeks, FindsAs, Joins, Settles}
 use Rattle.engine.specs.declared.Bench.{Bench}
 use Rattle.engine.specs.declared.Found.{Found}
 use Rattle.engine.proofs.SizeLaws.{need_light}
-use Rattle.engine.proofs.HandLaws.{edge_packed, stand_end, first_cell, last_cell, is_made, all_made, inside, some_cells, start_first, start_last, bound_first, bound_last, packed_within, wanted}
-use Rattle.engine.proofs.ChoiceLaws.{joins_by}
-use Rattle.engine.proofs.HeapLaws.{with_keys, makes_by, made_heap}
-use Rattle.engine.proofs.StepLaws.{FoundFor, again_stands, found_stands, last_place, edge_last, bound, first_last, all_inside, start_of_last, bound_of_last, bound_between, bound_past}
+use Rattle.engine.proofs.HandLaws.{edge_packed, stand_end, first_cell, last_cell, is_made, all_made, inside, start_first, start_last, bound_first, packed_within, wanted}
+use Rattle.engine.proofs.HeapLaws.{with_keys, makes_by}
+use Rattle.engine.proofs.StepLaws.{FoundFor, again_stands, last_place, edge_last, bound, first_last, all_inside, start_of_last, bound_of_last, bound_between, bound_past}
 
 module _ (R : Row) (y : Layout) (laid : Laid R y) (e : Bench) (ls : Lists) (opened carried : ℕ) where
   abbrev n : ℕ

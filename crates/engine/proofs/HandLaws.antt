@@ -1,6 +1,6 @@
 -- What the numbers say of the clump in hand and of the last settled one: where their cells and changes lie and where they may stand.
-use Prim.Native.Nat.{ℕ, ◌+◌, ◌-◌, ◌*◌, ◌≤◌, ◌<◌}
-use mathlib.Core.Path.{◌≡◌, refl, ap, sym, subst, ◌∙◌}
+use Prim.Native.Nat.{ℕ, ◌+◌, ◌-◌, ◌≤◌, ◌<◌}
+use mathlib.Core.Path.{◌≡◌, ap, sym, ◌∙◌}
 use mathlib.Core.Bool.{true}
 use mathlib.Core.List.{List, [], ◌∷◌}
 use native.Mathlib.Omega.{arith}
@@ -8,11 +8,11 @@ use lib.ListN.{length, get_or}
 use lib.Dec.{leb}
 use borrow.Author.Tests.{leb-true}
 use Rattle.rules.specs.Row.{Row}
-use Rattle.rules.specs.Steps.{Clump, Hand, empty, holding, Bench as Meant, end_of}
+use Rattle.rules.specs.Steps.{Clump, holding, end_of}
 use Rattle.rules.specs.Bench.{apart}
 use Rattle.slopes.specs.Frame.{packed, packed_zero, packed_most}
 use Rattle.slopes.specs.Sizes.{need}
-use Rattle.slopes.specs.Forgotten.{both_left, both_right, cells_in, MadeAt, AllMade, all_clumps}
+use Rattle.slopes.specs.Forgotten.{both_left, both_right, cells_in, MadeAt, AllMade}
 use Rattle.engine.specs.Laid.{held_before, need_before, Layout, Laid}
 use Rattle.engine.specs.Stands.{Lists, stand_of, limit_of, Stands}
 use Rattle.engine.specs.declared.Bench.{Bench}

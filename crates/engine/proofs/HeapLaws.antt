@@ -1,14 +1,14 @@
 -- Heaps of settled clumps stay as they are where only keys farther on change; and what making a heap of consecutive cells asks, and gives.
-use Prim.Native.Nat.{ℕ, ◌+◌, ◌-◌, ◌*◌, ◌≤◌, ◌<◌}
-use mathlib.Core.Path.{◌≡◌, refl, ap, sym, subst, ◌∙◌}
+use Prim.Native.Nat.{ℕ, ◌+◌, ◌≤◌, ◌<◌}
+use mathlib.Core.Path.{◌≡◌, refl, ap, ◌∙◌}
 use mathlib.Core.List.{List, [], ◌∷◌}
 use native.Mathlib.Omega.{arith}
 use lib.ListN.{length, get_or}
 use Rattle.rules.specs.Row.{Row}
 use Rattle.rules.specs.Steps.{Clump}
 use Rattle.slopes.specs.Frame.{packed, packed_most}
-use Rattle.slopes.specs.Forgotten.{cells_in, MadeAt, AllMade}
-use Rattle.changes.specs.Fills.{Weighed, Filled, Outside}
+use Rattle.slopes.specs.Forgotten.{cells_in}
+use Rattle.changes.specs.Fills.{Filled, Outside}
 use Rattle.changes.specs.FillLaws.{filled_few, filled_outside}
 use Rattle.changes.specs.declared.Kept.{Kept}
 use Rattle.engine.specs.Laid.{held_before, held_rises, held_most, Layout, Laid}

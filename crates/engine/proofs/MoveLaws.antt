@@ -3,18 +3,17 @@
 use Prim.Native.Nat.{ℕ, ◌+◌, ◌-◌, ◌≤◌, ◌<◌}
 use mathlib.Core.Path.{◌≡◌, refl, ap, sym, subst, ◌∙◌}
 use mathlib.Core.Bool.{true, false}
-use mathlib.Core.List.{List, [], ◌∷◌}
+use mathlib.Core.List.{List, ◌∷◌}
 use native.Mathlib.Omega.{arith}
 use lib.ListN.{length, get_or}
 use Rattle.rules.specs.Row.{Row}
 use Rattle.rules.specs.Steps.{Clump, Hand, empty, holding, Bench as Meant, end_of, right_of, finished_by, finished, step}
-use Rattle.slopes.specs.Forgotten.{cells_in}
 use Rattle.changes.specs.Fills.{Outside}
 use Rattle.changes.specs.Steps.{JoinedAs}
 use Rattle.changes.specs.declared.Joined.{Joined}
 use Rattle.engine.specs.Laid.{Layout, Laid}
 use Rattle.engine.specs.Stands.{Lists, Stands}
-use Rattle.engine.specs.Taken.{stand_of_last, HasLast, with_hand, with_opened, with_joined, with_settled, Makes, MadeAs, Sure, FoundAs, Seeks, FindsAs, meeting_of, Joins, Settles, settled_lists}
+use Rattle.engine.specs.Taken.{stand_of_last, HasLast, with_hand, with_opened, with_joined, with_settled, Makes, MadeAs, Sure, Seeks, FindsAs, meeting_of, Joins, Settles, settled_lists}
 use Rattle.engine.specs.declared.Bench.{Bench}
 use Rattle.engine.specs.declared.Found.{Found}
 use borrow.Author.Tests.{leb-false}
@@ -22,7 +21,7 @@ use Rattle.engine.proofs.HandLaws.{is_made, all_made, inside, packed_within, bou
 use Rattle.engine.proofs.ChoiceLaws.{joins_by}
 use Rattle.engine.proofs.HeapLaws.{with_keys}
 use Rattle.engine.proofs.StepLaws.{FoundFor, opened_stands, found_stands, settled_stands, joined_stands}
-use Rattle.engine.proofs.AskLaws.{open_asks, hand_makes, hand_last, Rooms, hand_rooms, limit_is, limit_fits, wants, sure_stands, hand_seeks, found_here, hand_settles, hand_joins, some_last, nothing_held, clump_held}
+use Rattle.engine.proofs.AskLaws.{open_asks, hand_makes, hand_last, hand_rooms, limit_is, limit_fits, wants, sure_stands, hand_seeks, found_here, hand_settles, hand_joins, some_last, nothing_held, clump_held}
 
 module _ (R : Row) (y : Layout) (laid : Laid R y) (b : Meant) where
   abbrev with_clump : Clump → Meant

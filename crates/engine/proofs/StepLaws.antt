@@ -1,15 +1,15 @@
 -- Each of the three steps, done on the lists, is the step of the definitions; and making the heap in hand again, or walking down it, changes nothing.
-use Prim.Native.Nat.{ℕ, ◌+◌, ◌-◌, ◌*◌, ◌≤◌, ◌<◌, min, max}
-use mathlib.Core.Path.{◌≡◌, refl, ap, sym, subst, ◌∙◌}
+use Prim.Native.Nat.{ℕ, ◌+◌, ◌-◌, ◌≤◌, ◌<◌, min, max}
+use mathlib.Core.Path.{◌≡◌, refl, ap, subst, ◌∙◌}
 use mathlib.Core.Bool.{true, false}
 use mathlib.Core.Logic.{◌⊎◌, ⊎_elim, inl, inr}
 use mathlib.Core.List.{List, [], ◌∷◌}
 use native.Mathlib.Omega.{arith}
 use lib.ListN.{length, get_or, set, length-set}
 use lib.Seq.{get_or-set_same, get_or-set_other}
-use borrow.Author.Tests.{lt-ltb, le-ltb, leb-false}
+use borrow.Author.Tests.{lt-ltb, le-ltb}
 use Rattle.rules.specs.Row.{Row}
-use Rattle.rules.specs.Steps.{Clump, Hand, empty, holding, Bench as Meant, single, joined, standing, end_of, left_of, right_of, opens, joins, settles, finished_by, finished, step_by, step}
+use Rattle.rules.specs.Steps.{Clump, Hand, empty, holding, Bench as Meant, single, joined, standing, end_of, left_of, right_of, opens, joins, settles, step_by, step}
 use Rattle.rules.specs.Bench.{apart}
 use Rattle.slopes.specs.Frame.{packed}
 use Rattle.slopes.specs.Turn.{by_order}
@@ -21,14 +21,14 @@ use Rattle.changes.specs.Fills.{Filled, Outside}
 use Rattle.changes.specs.Steps.{JoinedAs}
 use Rattle.changes.specs.declared.Kept.{Kept}
 use Rattle.changes.specs.declared.Joined.{Joined}
-use Rattle.engine.specs.Laid.{held_before, held_rises, held_most, Layout, Laid}
-use Rattle.engine.specs.Stands.{Lists, lists_of, stand_of, limit_of, Listed, Roomy, Stands}
+use Rattle.engine.specs.Laid.{held_before, held_most, Layout, Laid}
+use Rattle.engine.specs.Stands.{Lists, lists_of, stand_of, limit_of, Listed, Stands}
 use Rattle.engine.specs.Taken.{last_of, first_of_last, with_hand, with_opened, with_joined, with_settled, MadeAs, FoundAs, meeting_of, settled_lists}
 use Rattle.engine.specs.declared.Bench.{Bench}
 use Rattle.engine.specs.declared.Found.{Found}
-use Rattle.engine.proofs.ClumpLaws.{clump_held, clump_width}
-use Rattle.engine.proofs.HandLaws.{stands_rise, edge_packed, first_cell, all_cells, last_cell, is_made, all_made, inside, start_first, bound_first, bound_last, packed_within}
-use Rattle.engine.proofs.ChoiceLaws.{joins_by, settles_at, not_joined}
+use Rattle.engine.proofs.ClumpLaws.{clump_held}
+use Rattle.engine.proofs.HandLaws.{stands_rise, last_cell, is_made, all_made, inside, start_first, bound_first, bound_last, packed_within}
+use Rattle.engine.proofs.ChoiceLaws.{settles_at, not_joined}
 use Rattle.engine.proofs.HeapLaws.{with_keys, roomy_keys, heaps_kept, heaps_before, made_heap}
 
 -- what the walk down the heap in hand found

@@ -1,5 +1,5 @@
 -- What each step does to the engine's numbers and lists (document 01, "The steps").
-use Rattle.std.specs.Prelude.{ℕ, ◌+◌, ◌-◌, ◌*◌, ◌^◌, ◌≤◌, ◌<◌, min, ◌≡◌, Bool, true, false, cond, ◌⊎◌, List, length, get_or, set, eqb, ℤ}
+use Rattle.std.specs.Prelude.{ℕ, ◌+◌, ◌-◌, ◌*◌, ◌^◌, ◌≤◌, ◌<◌, min, ◌≡◌, true, false, cond, ◌⊎◌, List, length, get_or, set, eqb, ℤ}
 use Rattle.rules.specs.Sizes.{widest, heaviest}
 use Rattle.changes.specs.Fills.{Weighed, lefts, Filled, Outside}
 use Rattle.changes.specs.Steps.{Heaped, Meets}

@@ -1,5 +1,5 @@
 -- The bench as bytes (document 01, "The bench"): what a bench is written as, what saved bytes say, and which are in form.
-use Rattle.std.specs.Prelude.{ℕ, zero, suc, pred, ◌+◌, ◌-◌, ◌*◌, List, [], ◌∷◌, ◌++◌, reverse, Bool, true, false, cond, ◌&&◌, ◌||◌, length, get_or, drop, replicate, ltb, leb, eqb}
+use Rattle.std.specs.Prelude.{ℕ, zero, suc, pred, ◌+◌, ◌-◌, ◌*◌, List, [], ◌∷◌, ◌++◌, reverse, Bool, true, cond, ◌&&◌, length, get_or, drop, replicate, leb, eqb}
 use Rattle.numbers.specs.Bytes.{u16_at, u32_at, u16_bytes, u32_bytes}
 use Rattle.rules.specs.Sizes.{most_cells, most_carried, head_size, part_size, bench_size}
 use Rattle.rules.specs.Row.{Row}

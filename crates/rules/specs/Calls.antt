@@ -1,5 +1,5 @@
 -- What the broker calls (document 01, section of that name): for every input the answer, and every byte of the lent buffer afterwards.
-use Rattle.std.specs.Prelude.{ℕ, zero, suc, ◌+◌, ◌*◌, List, [], ◌∷◌, ◌++◌, reverse, Bool, true, false, cond, length, drop, ltb, leb, eqb}
+use Rattle.std.specs.Prelude.{ℕ, zero, suc, ◌+◌, ◌*◌, List, [], ◌∷◌, ◌++◌, reverse, Bool, true, false, cond, length, drop, eqb}
 use Rattle.numbers.specs.Bytes.{u32_at, u32_bytes}
 use Rattle.rules.specs.Sizes.{bench_size}
 use Rattle.rules.specs.Refusals.{refusal}

@@ -1,8 +1,8 @@
 -- Slope changes, cost, slope and best interval (document 01, "Slope changes"; document 000, section 2).
-use Rattle.std.specs.Prelude.{ℕ, zero, suc, ◌+◌, ◌-◌, ◌*◌, min, max, List, [], ◌∷◌, ◌++◌, map, Bool, true, false, cond, ◌&&◌, ◌||◌, ltb, leb, eqb, ℤ, pos, neg_ℤ, ◌-ℤ◌}
-use Rattle.std.specs.Int.Signed.{lt_z, le_z}
+use Rattle.std.specs.Prelude.{ℕ, ◌+◌, ◌*◌, min, max, List, [], ◌∷◌, ◌++◌, map, Bool, cond, ◌&&◌, ◌||◌, ltb, eqb, ℤ, pos, neg_ℤ, ◌-ℤ◌}
+use Rattle.std.specs.Int.Signed.{le_z}
 use Rattle.numbers.specs.Signed.{above, below}
-use Rattle.rules.specs.Row.{Pin, fixed, on, Net, Row, is_on, counted}
+use Rattle.rules.specs.Row.{Pin, fixed, on, Net, counted}
 use Rattle.rules.specs.Length.{leftmost, rightmost}
 
 -- where the slope changes, and by how much: minus or plus a net's weight

@@ -1,5 +1,5 @@
 -- Legal, and how long (document 01, section of that name).
-use Rattle.std.specs.Prelude.{ℕ, zero, suc, ◌+◌, ◌*◌, List, [], ◌∷◌, map, Bool, true, false, cond, ◌&&◌, ◌||◌, length, get_or, ltb, leb, ℤ, pos, ◌-ℤ◌}
+use Rattle.std.specs.Prelude.{ℕ, suc, ◌+◌, ◌*◌, List, [], ◌∷◌, map, Bool, false, cond, ◌&&◌, ◌||◌, get_or, ltb, leb, ℤ, pos, ◌-ℤ◌}
 use Rattle.std.specs.Int.Signed.{lt_z}
 use Rattle.numbers.specs.Signed.{above}
 use Rattle.rules.specs.Row.{Pin, fixed, on, Net, Row, counted}

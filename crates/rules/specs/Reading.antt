@@ -1,8 +1,8 @@
 -- Reading a whole row (document 01, "The row as bytes" and "What the broker calls"): records from left to right, the first fault wins,
 -- then the tail (3) and the widths (6).
-use Rattle.std.specs.Prelude.{ℕ, zero, suc, ◌+◌, List, [], ◌∷◌, ◌++◌, reverse, Bool, true, false, cond, length, drop, leb, eqb}
+use Rattle.std.specs.Prelude.{ℕ, zero, suc, ◌+◌, List, [], ◌∷◌, ◌++◌, reverse, true, false, cond, length, drop, leb, eqb}
 use Rattle.rules.specs.Row.{Pin, fixed, on, Net, Row}
-use Rattle.rules.specs.Records.{Head, Reading, record_at, takes}
+use Rattle.rules.specs.Records.{Reading, record_at, takes}
 use Rattle.rules.specs.declared.Refusal.{Refusal}
 use Rattle.rules.specs.declared.Refusal.TheVariants.{Cut, Tail, Full}
 use Rattle.rules.specs.declared.Record.{Record}

@@ -1,11 +1,10 @@
 -- One record of a row (document 01, "The row as bytes" and the last paragraph of "What the broker calls"): the marks, the sizes, what
 -- may stand at a place, and what reading one answers.
-use Rattle.std.specs.Prelude.{ℕ, ◌+◌, ◌*◌, List, [], ◌∷◌, Bool, true, false, cond, ◌&&◌, ◌||◌, not, length, get_or, ltb, leb, eqb, ℤ, pos, neg_ℤ}
+use Rattle.std.specs.Prelude.{ℕ, ◌+◌, ◌*◌, List, [], ◌∷◌, Bool, true, false, cond, ◌&&◌, not, length, get_or, ltb, leb, eqb, pos, neg_ℤ}
 use Rattle.std.specs.Int.Signed.{le_z}
 use Rattle.numbers.specs.Bytes.{u16_at, u32_at, i32_at}
 use Rattle.rules.specs.Sizes.{widest, most_cells, most_nets, heaviest, most_pins}
 use Rattle.rules.specs.Row.{Pin, fixed, on, Net}
-use Rattle.rules.specs.declared.Refusal.{Refusal}
 use Rattle.rules.specs.declared.Refusal.TheVariants.{Cut, WrongMark, Range, Lonely}
 use Rattle.rules.specs.declared.Mark.{Mark}
 use Rattle.rules.specs.declared.Mark.TheVariants.{RowMark, CellMark, NetMark, FixedMark, PinMark, EndMark, NoMark}

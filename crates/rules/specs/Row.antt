@@ -1,6 +1,6 @@
 -- A row as it is meant (document 01, "The row as bytes"): its width, its cells' widths from left to right, and its nets, each with its
 -- pins in reading order.
-use Rattle.std.specs.Prelude.{ℕ, List, [], ◌∷◌, Bool, true, false, cond, ◌||◌, eqb, ℤ}
+use Rattle.std.specs.Prelude.{ℕ, List, [], ◌∷◌, Bool, false, cond, ◌||◌, eqb, ℤ}
 
 -- a fixed pin at its coordinate (FP), or a pin on a cell at an offset from the cell's left edge (MP)
 pub data Pin : Type 0 where

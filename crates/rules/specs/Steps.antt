@@ -1,5 +1,5 @@
 -- The steps (document 01, section of that name; document 000, section 3): open, join, settle, and what a run of them leaves.
-use Rattle.std.specs.Prelude.{ℕ, zero, suc, ◌+◌, ◌-◌, ◌*◌, min, max, List, [], ◌∷◌, ◌++◌, map, Bool, true, false, cond, length, get_or, ltb, leb, pos, ◌-ℤ◌}
+use Rattle.std.specs.Prelude.{ℕ, zero, suc, ◌+◌, ◌-◌, ◌*◌, min, max, List, [], ◌∷◌, ◌++◌, map, Bool, false, cond, length, get_or, ltb, leb, pos, ◌-ℤ◌}
 use Rattle.numbers.specs.Log.{whole_log}
 use Rattle.rules.specs.Row.{Row}
 use Rattle.rules.specs.Changes.{Change, changes_on, best_left, best_right}

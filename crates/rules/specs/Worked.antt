@@ -1,7 +1,7 @@
 -- The rows worked by hand (document 01, "Rows worked by hand"), as bytes, in one table under a single claim: what the calls' definitions
 -- answer and write for them. Four rows of our own stand beside them: three for slips that the document's rows let pass, and `end_at_right`, in which
 -- an end lies exactly at r.
-use Rattle.std.specs.Prelude.{ℕ, zero, suc, ◌+◌, ◌*◌, ◌^◌, ◌≡◌, refl, List, [], ◌∷◌, ◌++◌, Bool, true, false, cond, ◌&&◌, length, take, replicate, eqb, leb}
+use Rattle.std.specs.Prelude.{ℕ, ◌+◌, ◌*◌, ◌≡◌, refl, List, [], ◌∷◌, Bool, true, false, ◌&&◌, length, take, replicate, eqb}
 use Rattle.numbers.specs.Bytes.{u32_at}
 use Rattle.rules.specs.Sizes.{bench_size}
 use Rattle.rules.specs.Refusals.{refusal}
@@ -12,9 +12,9 @@ use Rattle.rules.specs.Length.{overlap_from, overlap, leftmost, rightmost, exten
 use Rattle.rules.specs.Changes.{fixed_of, cells_of, offsets_on, least, greatest, left_cell, right_cell, left_offset, right_offset, left_fixed, right_fixed, left_change, right_change, changes_on, cost_of, cost, candidates, cheapest, best_left, best_right}
 use Rattle.rules.specs.Steps.{single, moved, joined, left_of, right_of, opens, joins, settles, finished_by, finished, step_by, step, run, steps_taken}
 use Rattle.rules.specs.Bench.{fresh, clumps_of, parts, padded, bench_bytes, made, cells_before, clump_at, clumps_to, hand_of, rest_of, bench_of, all_zero, all_have_cells, apart, in_form}
-use Rattle.rules.specs.Calls.{Outcome, check_call, fresh_call, sliced, slice_call, packed, positions_in, positions, site_bytes, sites_from, placed, placement_call, measured, measure_call}
+use Rattle.rules.specs.Calls.{check_call, fresh_call, sliced, slice_call, packed, positions_in, positions, site_bytes, sites_from, placed, placement_call, measured, measure_call}
 use Rattle.rules.specs.declared.Refusal.{Refusal}
-use Rattle.rules.specs.declared.Refusal.TheVariants.{Cut, Full}
+use Rattle.rules.specs.declared.Refusal.TheVariants.{Full}
 
 -- what the document says of a row
 pub data Fact : Type 0 where
