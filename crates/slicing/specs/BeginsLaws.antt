@@ -1,6 +1,5 @@
 -- From a row that was read, laid out in lent lists, and a bench that was loaded to what a run starts from; and room for fewer cells and nets.
 use Rattle.std.specs.Prelude.{ℕ, ◌*◌, ◌≤◌, ◌≡◌, true, List, length, ℤ}
-use Rattle.std.proofs.Common.{arith}
 use Rattle.rules.specs.Row.{Row}
 use Rattle.rules.specs.Bench.{in_form}
 use Rattle.nets.specs.NetLists.{NetLists}
@@ -11,9 +10,9 @@ use Rattle.benches.specs.Saved.{Tells}
 use Rattle.layout.specs.Kept.{kept_in}
 use Rattle.layout.specs.Shared.{Held, Needed, Places}
 use Rattle.layout.specs.Laid.{Laid as Spread}
-use Rattle.engine.specs.Laid.{Layout, layout_of}
-use Rattle.engine.specs.Stands.{Lists, lists_of}
-use Rattle.slicing.specs.Begun.{Begins, Lent}
+use Rattle.engine.specs.Laid.{layout_of}
+use Rattle.engine.specs.Stands.{lists_of}
+use Rattle.slicing.specs.Begun.{Begins}
 use Rattle.slicing.specs.LaidLaws.{row_laid, row_roomy}
 
 pub begins_by : (h : Sheet) (widths : List ℕ) (ls : NetLists) (R : Row) → Holds h widths ls R

@@ -1,5 +1,5 @@
 -- `slice`: what was read of a row is laid out for the engine, the bench is told in form or not, and what is in form is advanced.
-use Rattle.std.proofs.Common.{◌≡◌, ℕ, List, true, false, arith, refl, sym, ◌∙◌}
+use Rattle.std.proofs.Common.{◌≡◌, ℕ, true, false, arith, refl, sym, ◌∙◌}
 use borrow.Author.Tests.{not-true, not-false}
 use Rattle.rules.specs.Row.{Row}
 use Rattle.rules.specs.Bench.{in_form}
