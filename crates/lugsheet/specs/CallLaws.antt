@@ -1,16 +1,16 @@
 -- Laws of the calls' definitions, way by way: what each answers where the row is refused, a buffer has another length, or all is well.
-use Rattle.std.specs.Prelude.{ℕ, ◌*◌, ◌≡◌, Bool, true, false, cond, List, [], eqb}
+use Rattle.std.specs.Prelude.{ℕ, ◌*◌, ◌≡◌, true, false, List}
 use Rattle.std.proofs.Math.Path.{refl}
-use Rattle.std.proofs.Common.{ap, sym, ◌∙◌}
+use Rattle.std.proofs.Common.{ap, sym}
 use Rattle.std.proofs.Math.ListN.{length}
 use borrow.Author.Tests.{eq-eqb, ne_eqb}
 use Rattle.rules.specs.Refusals.{refusal}
 use Rattle.rules.specs.Row.{Row}
-use Rattle.rules.specs.Reading.{Read, taken, refused, read_row}
+use Rattle.rules.specs.Reading.{taken, refused, read_row}
 use Rattle.rules.specs.Length.{overlap, netlength}
 use Rattle.rules.specs.Sizes.{bench_size}
 use Rattle.rules.specs.Bench.{bench_of, in_form}
-use Rattle.rules.specs.Calls.{Outcome, with_row, refuse, given, check_call, measure_call, measured, sites_from, slice_call, sliced, placement_call}
+use Rattle.rules.specs.Calls.{Outcome, refuse, check_call, measure_call, measured, sites_from, slice_call, sliced, placement_call}
 use Rattle.rules.specs.declared.Refusal.{Refusal}
 use Rattle.rules.specs.declared.Refusal.TheVariants.{Room, WrongBench, Overlap}
 

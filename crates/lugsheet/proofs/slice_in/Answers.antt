@@ -6,7 +6,7 @@ use Rattle.rules.specs.Row.{Row}
 use Rattle.nets.specs.NetLists.{NetLists, lists_of}
 use Rattle.reading.specs.Reads.{Holds}
 use Rattle.reading.specs.ReadsLaws.{said_refused, said_taken, holds_parts}
-use Rattle.slicing.specs.Sliced.{SlicedAs, advanced_outcome}
+use Rattle.slicing.specs.Sliced.{advanced_outcome}
 use Rattle.lugsheet.specs.CallLaws.{told_by, slice_refused, slice_room, slice_form, slice_done}
 use Rattle.lugsheet.proofs.slice_in.Goals.{In_default}
 use Rattle.lugsheet.proofs.slice_in.Goals as goal
