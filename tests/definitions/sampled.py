@@ -28,7 +28,7 @@ def facts_of(r, data):
     benches = list(reading.benches(row))
     steps, carried = len(benches) - 1, benches[-1][3]
     assert steps <= max(0, 3 * len(row.cells) - 1)
-    facts = [f'answers {len(row.cells)}', f'stands {listed(sites)} {length}', f'takes-steps {steps}', f'carries {carried}']
+    facts = [f'answers {len(row.cells)}', f'stands {listed(sites)} {length}', f'takes_steps {steps}', f'carries {carried}']
     after, budget = r.randint(0, steps), r.choice([0, 1, 2, 3, 50])
     facts.append(f'begins {after} {listed(reading.bench_bytes(benches[after]))}')
     taken = min(budget, steps - after)
@@ -66,8 +66,8 @@ def sampled_text(worked, table):
     rows = re.findall(r'^([\w-]+) : List ℕ\n\1 =\n', worked, re.M)
     text = re.sub(r'(^--[^\n]*\n)*^([\w-]+) : List ℕ\n\2 =\n([^\n]+\n)+\n', '', worked, flags=re.M)
     text = re.sub(r'^pub table : List Worked\n([^\n]+\n)+', lambda _: table_text(table), text, flags=re.M)
-    text = text.replace('  refused-by : Refusal', '  answers : ℕ → Fact\n  refused-by : Refusal', 1)
-    text = text.replace('holds row (refused-by', 'holds row (answers k) = eqb (checkCall row .answer) k\nholds row (refused-by', 1)
+    text = text.replace('  refused_by : Refusal', '  answers : ℕ → Fact\n  refused_by : Refusal', 1)
+    text = text.replace('holds row (refused_by', 'holds row (answers k) = eqb (check_call row).answer k\nholds row (refused_by', 1)
     head, unfolded = text.split('\nunfolding\n')
     names = [name for name in unfolded.split('\nworked = ')[0].split() if name not in rows]
     lines = ['  ' + ' '.join(names[at:at + 10]) for at in range(0, len(names), 10)]
@@ -103,9 +103,9 @@ def proved(folder, text):
     """Whether rt proves this Sampled.antt, and what it said."""
     with open(os.path.join(folder, 'crates/rules/specs/Sampled.antt'), 'w') as file:
         file.write(text)
-    ran = subprocess.run(['rt', 'dev', 'rules'], cwd=folder, stdout=subprocess.PIPE, stderr=subprocess.STDOUT, text=True)
+    ran = subprocess.run(['rt', 'check'], cwd=os.path.join(folder, 'crates/rules'), stdout=subprocess.PIPE, stderr=subprocess.STDOUT, text=True)
     said = ran.stdout.strip()
-    return said.split('\n')[-1].startswith('logic=proved') and ran.returncode == 0, said
+    return re.search('^logic=proved', said, re.M) is not None and ran.returncode == 0, said
 
 
 def changed(r, table, kind):
@@ -140,7 +140,7 @@ def main():
             print(f'definitions: NOT PROVED, seed {asked.seed}: {len(table)} rows, {facts} facts')
             return 1
         r = random.Random(asked.seed)
-        kinds = r.sample(['stands', 'takes-steps', 'carries', 'begins', 'slices', 'answers'], asked.changed)
+        kinds = r.sample(['stands', 'takes_steps', 'carries', 'begins', 'slices', 'answers'], asked.changed)
         for kind in kinds:
             holds, said = proved(folder, sampled_text(worked, changed(r, table, kind)))
             if holds or 'Sampled' not in said:
