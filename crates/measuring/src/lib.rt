@@ -2,66 +2,45 @@
 // of each net. A placement is the caller's own 4n bytes, read where they lie.
 #![tactic(auto)]
 
-ghost use Rattle.std.specs.Prelude.{◌≡◌, List, ℕ, ◌+◌, ◌*◌, ◌≤◌, ◌<◌, length};
+ghost use Rattle.std.specs.Prelude.{◌≡◌, List, ℕ, ◌*◌, ◌≤◌, ◌<◌, length, unwrap_or, IfSome};
 ghost use Rattle.rules.specs.Sizes.{most_cells};
 ghost use Rattle.rules.specs.Length.{overlap_from};
 ghost use Rattle.rules.specs.Calls.{sites_from};
-ghost use Rattle.nets.specs.NetLists.{lists_of, nets_to};
 ghost use Rattle.nets.specs.Span.{length_by};
-ghost use Rattle.measuring.specs.Measures.{Widths, Measurable};
+ghost use Rattle.measuring.specs.Measures.{Measurable};
 
-fn wide(x: u32) -> u64
-    ensures { (result ≡ x) × (result < 4294967296) }
-{
-    x as u64
-}
+use nets::Net;
 
-// The first cell that starts before its left neighbour's end or ends past W; the number of cells where there is none.
-pub fn first_overlap(widths: &[u32], cells: usize, width: u32, placement: &[u8]) -> usize
-    requires { (cells ≤ most_cells) × (4 * cells ≤ length placement.now) × (cells ≤ length widths.now) }
-    ensures { (ws : List ℕ) → Widths widths.now cells ws → result ≡ overlap_from width 0 0 ws (sites_from placement.now 0 cells) }
+// The first cell that starts before its left neighbour's end or ends past W, if there is one.
+pub fn first_overlap(widths: &[u32], width: u32, placement: &[u8]) -> Option<usize>
+    requires { (length widths.now ≤ most_cells) × (4 * length widths.now ≤ length placement.now) }
+    ensures first { unwrap_or result (length widths.now) ≡ overlap_from width 0 0 widths.now (sites_from placement.now 0 (length widths.now)) }
+    ensures within { IfSome result (λ i. i < length widths.now) }
 {
-    let limit = wide(width);
-    let mut end: u64 = 0;
-    let mut i: usize = 0;
-    while i < cells {
-        let p = wide(numbers::u32_at(placement, 4 * i));
+    let mut end = 0;
+    for (i, w) in widths.iter().enumerate() {
+        let p = u64::from(numbers::u32_at(placement, 4 * i));
         if p < end {
-            return i;
+            return Some(i);
         }
-        let e = p + wide(widths[i]);
-        if limit < e {
-            return i;
+        end = p + u64::from(*w);
+        if u64::from(width) < end {
+            return Some(i);
         }
-        end = e;
-        i += 1;
     }
-    cells
+    None
 }
 
 // The netlength: the sum of weight times span.
-pub fn netlength(
-    weights: &[u32],
-    ends: &[u16],
-    offsets: &[u32],
-    fixed: &[i32],
-    nets: usize,
-    placement: &[u8],
-) -> u64
-    requires { (ws : List ℕ) × Measurable (lists_of weights.now ends.now offsets.now fixed.now) nets ws placement.now }
-    ensures { (ws : List ℕ) → Measurable (lists_of weights.now ends.now offsets.now fixed.now) nets ws placement.now → result ≡ length_by (sites_from placement.now 0 (length ws)) (nets_to (lists_of weights.now ends.now offsets.now fixed.now) nets) }
+pub fn netlength(nets: &[Net], placement: &[u8]) -> u64
+    requires { (ws : List ℕ) × Measurable nets.now ws placement.now }
+    ensures { (ws : List ℕ) → Measurable nets.now ws placement.now → result ≡ length_by (sites_from placement.now 0 (length ws)) nets.now }
 {
-    let mut sum: u64 = 0;
-    let mut k: usize = 0;
-    while k < nets {
-        let t = nets::net_at(weights, ends, offsets, fixed, k);
-        let left = t.left as usize;
-        let right = t.right as usize;
-        let p = numbers::u32_at(placement, 4 * left);
-        let q = numbers::u32_at(placement, 4 * right);
-        let w = t.weight;
-        sum += wide(w.0) * t.span(p, q);
-        k += 1;
+    let mut sum = 0;
+    for net in nets {
+        let p = numbers::u32_at(placement, 4 * usize::from(net.left));
+        let q = numbers::u32_at(placement, 4 * usize::from(net.right));
+        sum += u64::from(net.weight.0) * net.span(p, q);
     }
     sum
 }

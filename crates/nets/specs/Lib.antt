@@ -7,7 +7,6 @@ pub mod Turns
 pub mod Counted
 pub mod Lists
 pub mod TurnLaws
-pub mod NetLists
 pub mod Span
 pub mod Sides
 pub mod Apart

@@ -1,10 +1,12 @@
 -- What is kept of a net instead of its pins (document 01, "Slope changes"): its weight, L and R with the offsets on them, fl and fr.
 -- A `Listed` net is one with all its pins, a `Net` is what is kept of it, a `Draft` one that is still being read.
-use Rattle.std.specs.Prelude.{ℕ, List, [], ◌∷◌, ◌++◌, Bool, true, false, ℤ}
+use Rattle.std.specs.Prelude.{ℕ, List, [], ◌∷◌, ◌++◌, cond, ℤ, pos, Option, Some, None, unwrap_or}
 use Rattle.rules.specs.Row.{Net as Listed, Pin}
 use Rattle.rules.specs.Records.{has_pin}
 use Rattle.rules.specs.Changes.{left_cell, right_cell, left_offset, right_offset, left_fixed, right_fixed, fixed_of}
 use Rattle.nets.specs.declared.Net.{Net}
+use Rattle.nets.specs.declared.Ends.{Ends}
+use Rattle.nets.specs.declared.Fixed.{Fixed}
 use Rattle.nets.specs.declared.Draft.{Draft}
 
 -- of a net whose pins are listed, in a row of width W
@@ -19,14 +21,29 @@ summary W t = record {
   fr = right_fixed (fixed_of t.pins);
 }
 
--- are there any?
-abbrev pub some : List ℤ → Bool
-some [] = false
-some (x ∷ xs) = true
+-- what is kept of its pins on cells, and of its fixed pins, while it is read: nothing where it has none
+unfoldable pub ends_of : Listed → Option Ends
+ends_of t =
+    cond (has_pin t.pins)
+    (Some (record { left = left_cell t; right = right_cell t; onleft = left_offset t; onright = right_offset t })) None
+
+unfoldable pub fixed_ends : List ℤ → Option Fixed
+fixed_ends [] = None
+fixed_ends (x ∷ xs) = Some (record { left = left_fixed 0 (x ∷ xs); right = right_fixed (x ∷ xs) })
 
 -- a net whose pins so far are these
-unfoldable pub drafted : ℕ → Listed → Draft
-drafted W t = record { net = summary W t; anchored = some (fixed_of t.pins); pinned = has_pin t.pins }
+unfoldable pub drafted : Listed → Draft
+drafted t = record { weight = record { 0 = t.weight }; ends = ends_of t; fixed = fixed_ends (fixed_of t.pins) }
+
+-- what is kept of a net once it is read, in a row of width W: without fixed pins it spans from the row's right end to its left
+abbrev pub no_ends : Ends
+no_ends = record { left = 0; right = 0; onleft = 0; onright = 0 }
+
+abbrev pub kept : ℕ → Draft → Ends → Fixed → Net
+kept W d e f = record { weight = d.weight; left = e.left; right = e.right; onleft = e.onleft; onright = e.onright; fl = f.left; fr = f.right }
+
+abbrev pub closed : ℕ → Draft → Net
+closed W d = kept W d (unwrap_or d.ends no_ends) (unwrap_or d.fixed (record { left = pos W; right = pos 0 }))
 
 -- the net with one pin more
 unfoldable pub with_pin_of : Listed → Pin → Listed

@@ -7,34 +7,19 @@ ghost use Rattle.rules.specs.Sizes.{bench_size};
 ghost use Rattle.rules.specs.Row.{Row};
 ghost use Rattle.rules.specs.Bench.{bench_of};
 ghost use Rattle.rules.specs.Calls.{packed, positions, site_bytes};
-ghost use Rattle.nets.specs.NetLists.{lists_of};
-ghost use Rattle.reading.specs.Reads.{Holds, sheet_of};
+ghost use Rattle.reading.specs.Reads.{Holds};
 ghost use Rattle.placing.specs.Sites.{over};
 ghost use Rattle.placing.specs.Puts.{Fits, Ready};
 ghost use Rattle.placing.specs.PlacedAs.{PlacedAs};
 
-// Is the bench in form, is it finished, and if both, how long is the netlength?
-#[derive(Clone, Copy)]
-pub struct Placed {
-    pub formed: bool,
-    pub finished: bool,
-    pub length: u64,
-}
-
-fn wide(x: u16) -> usize
-    ensures { result ≡ x }
-{
-    x as usize
-}
+use reading::Sheet;
+use rules::Refusal;
 
 // Nothing in hand, all cells opened.
 fn is_finished(held: bool, opened: usize, cells: usize) -> bool
     ensures { result ≡ (not held && leb cells opened) }
 {
-    if held {
-        return false;
-    }
-    cells <= opened
+    !held && cells <= opened
 }
 
 // The cells of one clump, side by side from its edge.
@@ -43,11 +28,9 @@ fn put_clump(widths: &[u32], placement: &mut [u8], first: usize, end: usize, edg
     ensures { placement.new ≡ over placement.old first (packed edge (end - first) (drop first widths.now)) }
 {
     let mut x = edge;
-    let mut i = first;
-    while i < end {
+    for i in first..end {
         numbers::put_u32(placement, 4 * i, x);
         x += widths[i];
-        i += 1;
     }
 }
 
@@ -56,57 +39,36 @@ fn put_clumps(clumps: usize, counts: &[u16], edges: &[u32], widths: &[u32], plac
     requires { (R : Row) × ((s : List ℕ) × Ready R s clumps counts.now edges.now widths.now placement.old) }
     ensures { (R : Row) (s : List ℕ) → Ready R s clumps counts.now edges.now widths.now placement.old → placement.new ≡ site_bytes (positions R (bench_of R s)) }
 {
-    let mut first: usize = 0;
-    let mut k: usize = 0;
-    while k < clumps {
-        let end = first + wide(counts[k]);
+    let mut first = 0;
+    for k in 0..clumps {
+        let end = first + usize::from(counts[k]);
         put_clump(widths, placement, first, end, edges[k]);
         first = end;
-        k += 1;
     }
 }
 
 // The positions that a bench gives, for a row that was read, by what was kept of it. Three lists are lent to work in.
 pub fn place(
-    width: u32,
-    cells: usize,
-    nets: usize,
-    widths: &[u32],
-    weights: &[u32],
-    ends: &[u16],
-    offsets: &[u32],
-    fixed: &[i32],
+    sheet: Sheet<'_>,
     bench: &[u8],
     placement: &mut [u8],
     starts: &mut [u32],
     counts: &mut [u16],
     edges: &mut [u32],
-) -> Placed
-    requires bench_len { (length bench.now ≡ bench_size) × (cells + 1 ≤ length starts.old) × (cells ≤ length counts.old) × (cells ≤ length edges.old) × (length placement.old ≡ 4 * cells) }
-    requires holds { (R : Row) × Holds (sheet_of width cells nets) widths.now (lists_of weights.now ends.now offsets.now fixed.now) R }
-    ensures { (R : Row) → Holds (sheet_of width cells nets) widths.now (lists_of weights.now ends.now offsets.now fixed.now) R → PlacedAs R bench.now placement.old placement.new result }
+) -> Result<u64, Refusal>
+    requires bench_len { (length bench.now ≡ bench_size) × (length sheet.widths.now + 1 ≤ length starts.old) × (length sheet.widths.now ≤ length counts.old) × (length sheet.widths.now ≤ length edges.old) × (length placement.old ≡ 4 * length sheet.widths.now) }
+    requires holds { (R : Row) × Holds sheet.width sheet.widths.now sheet.nets.now R }
+    ensures { (R : Row) → Holds sheet.width sheet.widths.now sheet.nets.now R → PlacedAs R bench.now placement.old placement.new result }
 {
-    layout::lay_starts(widths, cells, starts);
-    let saved = benches::load(bench, width, cells, starts, counts, edges);
+    let cells = sheet.widths.len();
+    layout::lay_starts(sheet.widths, cells, starts);
+    let saved = benches::load(bench, sheet.width, cells, starts, counts, edges);
     if !saved.formed {
-        return Placed {
-            formed: false,
-            finished: false,
-            length: 0,
-        };
+        return Err(Refusal::WrongBench);
     }
     if !is_finished(saved.held, saved.opened, cells) {
-        return Placed {
-            formed: true,
-            finished: false,
-            length: 0,
-        };
+        return Err(Refusal::Unfinished);
     }
-    put_clumps(saved.clumps, counts, edges, widths, placement);
-    let length = measuring::netlength(weights, ends, offsets, fixed, nets, placement);
-    Placed {
-        formed: true,
-        finished: true,
-        length: length,
-    }
+    put_clumps(saved.clumps, counts, edges, sheet.widths, placement);
+    Ok(measuring::netlength(sheet.nets, placement))
 }

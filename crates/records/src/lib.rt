@@ -6,13 +6,14 @@
 ghost use Rattle.std.specs.Prelude.{◌≡◌, List, ◌&&◌, ℕ, ◌≤◌, ltb, leb, pos, neg_ℤ, length, get_or, drop};
 ghost use Rattle.std.specs.Int.Signed.{le_z};
 ghost use Rattle.rules.specs.Sizes.{widest, most_cells, most_nets, heaviest, most_pins};
-ghost use Rattle.rules.specs.Records.{Reading, mark_of, size_of, ranged, marked, record_at, takes};
+ghost use Rattle.rules.specs.Records.{Reading, size_of, ranged, marked, record_at, takes};
 ghost use Rattle.rules.specs.Reading.{start};
 ghost use Rattle.rules.specs.declared.Mark.TheVariants.{NetMark, FixedMark, PinMark, EndMark};
 ghost use Rattle.rules.specs.declared.Record.TheVariants.{Rw, Ce, Nt, Fp, Mp};
 ghost use Rattle.records.specs.Shows.{Shows};
 ghost use Rattle.records.specs.Progress.{Small, progress_after};
 ghost use Rattle.records.specs.Parts.{AtCells, AtNets};
+ghost use Rattle.records.specs.Recorded.{recorded, row_record, mark_at, whole};
 
 use rules::{Mark, Record, Refusal};
 
@@ -36,19 +37,22 @@ pub struct Progress {
     pub pinned: bool,
 }
 
-// The two letters of a mark, the first of them low.
-fn mark_of(m: u16) -> Mark
-    ensures { result ≡ mark_of m }
+// What RW says: the row's width, and how many cells and nets follow.
+#[derive(Clone, Copy)]
+pub struct First {
+    pub width: u32,
+    pub cells: u16,
+    pub nets: u16,
+}
+
+// The mark of the record at the start of these bytes. Fewer than two bytes come before all else (1), then letters that are no mark (2).
+fn mark_at(s: &[u8]) -> Result<Mark, Refusal>
+    ensures { result ≡ mark_at s.now }
 {
-    match m {
-        0x5752 => Mark::RowMark,
-        0x4543 => Mark::CellMark,
-        0x544e => Mark::NetMark,
-        0x5046 => Mark::FixedMark,
-        0x504d => Mark::PinMark,
-        0x4e45 => Mark::EndMark,
-        _ => Mark::NoMark,
+    if s.len() < 2 {
+        return Err(Refusal::Cut);
     }
+    Mark::try_from(numbers::u16_at(s, 0))
 }
 
 // The bytes of a whole record: its mark, and its numbers of 4 or 2 bytes.
@@ -62,8 +66,17 @@ fn size_of(m: Mark) -> usize
         Mark::FixedMark => 6,
         Mark::PinMark => 8,
         Mark::EndMark => 2,
-        Mark::NoMark => 0,
     }
+}
+
+// Is the body of a record there (1)?
+fn whole(m: Mark, s: &[u8]) -> Result<(), Refusal>
+    ensures { result ≡ whole m s.now }
+{
+    if s.len() < size_of(m) {
+        return Err(Refusal::Cut);
+    }
+    Ok(())
 }
 
 impl Progress {
@@ -83,137 +96,89 @@ impl Progress {
         }
     }
 
-    // How far the reading has come after a record; EN and a refused one leave it as it is.
+    // How far the reading has come after a record; EN leaves it as it is.
     pub fn after(mut self, r: Record) -> Self
         requires { Small self }
         ensures { result ≡ progress_after self r }
     {
         match r {
             Record::Rw(w, n, m) => {
-                self.place += 1;
                 self.width = w;
-                self.cells = n as usize;
-                self.nets = m as usize;
-                self
+                self.cells = usize::from(n);
+                self.nets = usize::from(m);
             }
-            Record::Ce(_) => {
-                self.place += 1;
-                self.filled += 1;
-                self
-            }
+            Record::Ce(_) => self.filled += 1,
             Record::Nt(_) => {
-                self.place += 1;
                 self.opened += 1;
                 self.pinned = false;
-                self
             }
-            Record::Fp(_) => {
-                self.place += 1;
-                self.pins += 1;
-                self
-            }
+            Record::Fp(_) => self.pins += 1,
             Record::Mp(_, _) => {
-                self.place += 1;
                 self.pins += 1;
                 self.pinned = true;
-                self
             }
-            Record::En => self,
-            Record::Refused(_) => self,
+            Record::En => return self,
         }
+        self.place += 1;
+        self
     }
 }
 
 // The numbers of RW against their ranges.
-fn row_of(width: u32, n: u16, m: u16) -> Record
-    ensures { result ≡ ranged (leb width widest && (leb n most_cells && leb m most_nets)) (Rw width n m) }
+fn row_of(width: u32, cells: u16, nets: u16) -> Result<First, Refusal>
+    ensures { recorded row_record result ≡ ranged (leb width widest && (leb cells most_cells && leb nets most_nets)) (Rw width cells nets) }
 {
-    if width > rules::WIDEST {
-        return Record::Refused(Refusal::Range);
+    if width > rules::WIDEST
+        || usize::from(cells) > rules::MOST_CELLS
+        || usize::from(nets) > rules::MOST_NETS
+    {
+        return Err(Refusal::Range);
     }
-    if n as usize > rules::MOST_CELLS {
-        return Record::Refused(Refusal::Range);
-    }
-    if m as usize > rules::MOST_NETS {
-        return Record::Refused(Refusal::Range);
-    }
-    Record::Rw(width, n, m)
+    Ok(First { width, cells, nets })
 }
 
-// The width of a cell.
-fn cell_of(w: u32) -> Record
-    ensures { result ≡ ranged (leb 1 w && leb w widest) (Ce w) }
+// The width of a cell or the weight of a net: from 1 to the most that there may be.
+fn from_one(x: u32, most: u32) -> Result<u32, Refusal>
+    ensures { (f : ℕ → Record) → recorded f result ≡ ranged (leb 1 x && leb x most) (f x) }
 {
-    if w < 1 {
-        return Record::Refused(Refusal::Range);
+    if !(1..=most).contains(&x) {
+        return Err(Refusal::Range);
     }
-    if w > rules::WIDEST {
-        return Record::Refused(Refusal::Range);
-    }
-    Record::Ce(w)
-}
-
-// The weight of a net.
-fn net_of(weight: u32) -> Record
-    ensures { result ≡ ranged (leb 1 weight && leb weight heaviest) (Nt weight) }
-{
-    if weight < 1 {
-        return Record::Refused(Refusal::Range);
-    }
-    if weight > rules::HEAVIEST {
-        return Record::Refused(Refusal::Range);
-    }
-    Record::Nt(weight)
+    Ok(x)
 }
 
 // A fixed pin, after the count of pins.
-fn fixed_of(x: i32, pins: usize) -> Record
+fn fixed_of(x: i32, pins: usize) -> Result<Record, Refusal>
     ensures { result ≡ ranged (ltb pins most_pins && (le_z (neg_ℤ (pos widest)) x && le_z x (pos widest))) (Fp x) }
 {
-    if pins >= rules::MOST_PINS {
-        return Record::Refused(Refusal::Range);
+    if pins >= rules::MOST_PINS || !(LEFTMOST..=RIGHTMOST).contains(&x) {
+        return Err(Refusal::Range);
     }
-    if x < LEFTMOST {
-        return Record::Refused(Refusal::Range);
-    }
-    if x > RIGHTMOST {
-        return Record::Refused(Refusal::Range);
-    }
-    Record::Fp(x)
+    Ok(Record::Fp(x))
 }
 
 // A pin on a cell, after the count of pins. The width of the cell is read only where there is such a cell.
-fn pin_of(cell: u16, offset: u32, pins: usize, cells: usize, widths: &[u32]) -> Record
-    requires { cells ≤ length widths.now }
-    ensures { result ≡ ranged (ltb pins most_pins && (ltb cell cells && leb offset (get_or widths.now cell 0))) (Mp cell offset) }
+fn pin_of(cell: u16, offset: u32, pins: usize, widths: &[u32]) -> Result<Record, Refusal>
+    ensures { result ≡ ranged (ltb pins most_pins && (ltb cell (length widths.now) && leb offset (get_or widths.now cell 0))) (Mp cell offset) }
 {
     if pins >= rules::MOST_PINS {
-        return Record::Refused(Refusal::Range);
+        return Err(Refusal::Range);
     }
-    let i = cell as usize;
-    if i >= cells {
-        return Record::Refused(Refusal::Range);
+    let i = usize::from(cell);
+    if i >= widths.len() || offset > widths[i] {
+        return Err(Refusal::Range);
     }
-    if offset > widths[i] {
-        return Record::Refused(Refusal::Range);
-    }
-    Record::Mp(cell, offset)
+    Ok(Record::Mp(cell, offset))
 }
 
 // The first record of a row: RW. As in every record, fewer than two bytes (1) come before the mark (2), then body short (1), fields (4).
-pub fn read_first(s: &[u8]) -> Record
-    ensures { result ≡ record_at start s.now }
+pub fn read_first(s: &[u8]) -> Result<First, Refusal>
+    ensures { recorded row_record result ≡ record_at start s.now }
 {
-    if s.len() < 2 {
-        return Record::Refused(Refusal::Cut);
-    }
-    let m = mark_of(numbers::u16_at(s, 0));
-    let Mark::RowMark = m else {
-        return Record::Refused(Refusal::WrongMark);
+    let Mark::RowMark = mark_at(s)? else {
+        return Err(Refusal::WrongMark);
     };
-    if s.len() < size_of(m) {
-        return Record::Refused(Refusal::Cut);
-    }
+    whole(Mark::RowMark, s)?;
     row_of(
         numbers::u32_at(s, 2),
         numbers::u16_at(s, 6),
@@ -221,117 +186,91 @@ pub fn read_first(s: &[u8]) -> Record
     )
 }
 
-// A record while the width of a cell is missing: CE.
-pub fn read_cell(s: &[u8]) -> Record
-    ensures { (c : Reading) → AtCells c → result ≡ record_at c s.now }
+// A record while the width of a cell is missing: CE, whose width is answered.
+pub fn read_cell(s: &[u8]) -> Result<u32, Refusal>
+    ensures { (c : Reading) → AtCells c → recorded Ce result ≡ record_at c s.now }
 {
-    if s.len() < 2 {
-        return Record::Refused(Refusal::Cut);
-    }
-    let m = mark_of(numbers::u16_at(s, 0));
-    let Mark::CellMark = m else {
-        return Record::Refused(Refusal::WrongMark);
+    let Mark::CellMark = mark_at(s)? else {
+        return Err(Refusal::WrongMark);
     };
-    if s.len() < size_of(m) {
-        return Record::Refused(Refusal::Cut);
-    }
-    cell_of(numbers::u32_at(s, 2))
+    whole(Mark::CellMark, s)?;
+    from_one(numbers::u32_at(s, 2), rules::WIDEST)
 }
 
 // NT: one net more, after one that has an MP.
-fn read_net(p: Progress, s: &[u8]) -> Record
+fn read_net(p: Progress, s: &[u8]) -> Result<Record, Refusal>
     ensures { (ws : List ℕ) (c : Reading) → Shows p ws c → AtNets c → result ≡ marked c NetMark s.now }
 {
     if p.opened >= p.nets {
-        return Record::Refused(Refusal::WrongMark);
+        return Err(Refusal::WrongMark);
     }
     if !p.pinned {
-        return Record::Refused(Refusal::Lonely);
+        return Err(Refusal::Lonely);
     }
-    if s.len() < size_of(Mark::NetMark) {
-        return Record::Refused(Refusal::Cut);
-    }
-    net_of(numbers::u32_at(s, 2))
+    whole(Mark::NetMark, s)?;
+    let weight = from_one(numbers::u32_at(s, 2), rules::HEAVIEST)?;
+    Ok(Record::Nt(weight))
 }
 
 // FP: a fixed pin of the open net.
-fn read_fixed(p: Progress, s: &[u8]) -> Record
+fn read_fixed(p: Progress, s: &[u8]) -> Result<Record, Refusal>
     ensures { (ws : List ℕ) (c : Reading) → Shows p ws c → result ≡ marked c FixedMark s.now }
 {
     if p.opened == 0 {
-        return Record::Refused(Refusal::WrongMark);
+        return Err(Refusal::WrongMark);
     }
-    if s.len() < size_of(Mark::FixedMark) {
-        return Record::Refused(Refusal::Cut);
-    }
+    whole(Mark::FixedMark, s)?;
     fixed_of(numbers::i32_at(s, 2), p.pins)
 }
 
 // MP: a pin of the open net on a cell.
-fn read_pin(p: Progress, widths: &[u32], s: &[u8]) -> Record
-    requires { p.cells ≤ length widths.now }
-    ensures { (c : Reading) → Shows p widths.now c → AtNets c → result ≡ marked c PinMark s.now }
+fn read_pin(p: Progress, widths: &[u32], s: &[u8]) -> Result<Record, Refusal>
+    ensures { (c : Reading) → Shows p widths.now c → AtNets c → length widths.now ≡ p.cells → result ≡ marked c PinMark s.now }
 {
     if p.opened == 0 {
-        return Record::Refused(Refusal::WrongMark);
+        return Err(Refusal::WrongMark);
     }
-    if s.len() < size_of(Mark::PinMark) {
-        return Record::Refused(Refusal::Cut);
-    }
-    pin_of(
-        numbers::u16_at(s, 2),
-        numbers::u32_at(s, 4),
-        p.pins,
-        p.cells,
-        widths,
-    )
+    whole(Mark::PinMark, s)?;
+    pin_of(numbers::u16_at(s, 2), numbers::u32_at(s, 4), p.pins, widths)
 }
 
 // EN: all nets are there, and the last one has an MP.
-fn read_end(p: Progress) -> Record
+fn read_end(p: Progress) -> Result<Record, Refusal>
     ensures { (ws : List ℕ) (c : Reading) → Shows p ws c → AtNets c → (s : List ℕ) → 2 ≤ length s → result ≡ marked c EndMark s }
 {
     if p.opened != p.nets {
-        return Record::Refused(Refusal::WrongMark);
+        return Err(Refusal::WrongMark);
     }
-    if p.pinned {
-        return Record::En;
+    if !p.pinned {
+        return Err(Refusal::Lonely);
     }
-    Record::Refused(Refusal::Lonely)
+    Ok(Record::En)
 }
 
 // A record once all widths are read: of a net, or EN.
-pub fn read_in_nets(p: Progress, widths: &[u32], s: &[u8]) -> Record
-    requires { p.cells ≤ length widths.now }
-    ensures { (c : Reading) → Shows p widths.now c → AtNets c → result ≡ record_at c s.now }
+pub fn read_in_nets(p: Progress, widths: &[u32], s: &[u8]) -> Result<Record, Refusal>
+    ensures { (c : Reading) → Shows p widths.now c → AtNets c → length widths.now ≡ p.cells → result ≡ record_at c s.now }
 {
-    if s.len() < 2 {
-        return Record::Refused(Refusal::Cut);
-    }
-    let m = mark_of(numbers::u16_at(s, 0));
-    match m {
-        Mark::RowMark => Record::Refused(Refusal::WrongMark),
-        Mark::CellMark => Record::Refused(Refusal::WrongMark),
+    match mark_at(s)? {
+        Mark::RowMark | Mark::CellMark => Err(Refusal::WrongMark),
         Mark::NetMark => read_net(p, s),
         Mark::FixedMark => read_fixed(p, s),
         Mark::PinMark => read_pin(p, widths, s),
         Mark::EndMark => read_end(p),
-        Mark::NoMark => Record::Refused(Refusal::WrongMark),
     }
 }
 
-// The bytes that a record takes; a refused one takes none.
-fn size_taken(r: Record) -> usize
-    ensures { result ≡ takes r }
+// The mark of a record.
+fn mark_of(r: Record) -> Mark
+    ensures { size_of result ≡ takes r }
 {
     match r {
-        Record::Rw(_, _, _) => 10,
-        Record::Ce(_) => 6,
-        Record::Nt(_) => 6,
-        Record::Fp(_) => 6,
-        Record::Mp(_, _) => 8,
-        Record::En => 2,
-        Record::Refused(_) => 0,
+        Record::Rw(_, _, _) => Mark::RowMark,
+        Record::Ce(_) => Mark::CellMark,
+        Record::Nt(_) => Mark::NetMark,
+        Record::Fp(_) => Mark::FixedMark,
+        Record::Mp(_, _) => Mark::PinMark,
+        Record::En => Mark::EndMark,
     }
 }
 
@@ -340,6 +279,5 @@ pub fn rest(s: &[u8], r: Record) -> &[u8]
     requires { takes r ≤ length s.now }
     ensures { result.now ≡ drop (takes r) s.now }
 {
-    let k = size_taken(r);
-    &s[k..]
+    &s[size_of(mark_of(r))..]
 }

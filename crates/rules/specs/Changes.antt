@@ -4,11 +4,7 @@ use Rattle.std.specs.Int.Signed.{le_z}
 use Rattle.numbers.specs.Signed.{above, below}
 use Rattle.rules.specs.Row.{Pin, fixed, on, Net, counted}
 use Rattle.rules.specs.Length.{leftmost, rightmost}
-
--- where the slope changes, and by how much: minus or plus a net's weight
-pub record Change : Type 0 where
-  pub at : ℤ
-  pub slope : ℤ
+pub use Rattle.rules.specs.declared.Change.{Change}
 
 -- the fixed pins of a list, the cells that it names, and its offsets on one cell
 unfoldable pub fixed_of : List Pin → List ℤ

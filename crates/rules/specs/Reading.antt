@@ -1,12 +1,12 @@
 -- Reading a whole row (document 01, "The row as bytes" and "What the broker calls"): records from left to right, the first fault wins,
 -- then the tail (3) and the widths (6).
-use Rattle.std.specs.Prelude.{ℕ, zero, suc, ◌+◌, List, [], ◌∷◌, ◌++◌, reverse, true, false, cond, length, drop, leb, eqb}
+use Rattle.std.specs.Prelude.{ℕ, zero, suc, ◌+◌, List, [], ◌∷◌, ◌++◌, reverse, true, false, cond, length, drop, leb, eqb, Result, Ok, Err}
 use Rattle.rules.specs.Row.{Pin, fixed, on, Net, Row}
 use Rattle.rules.specs.Records.{Reading, record_at, takes}
 use Rattle.rules.specs.declared.Refusal.{Refusal}
 use Rattle.rules.specs.declared.Refusal.TheVariants.{Cut, Tail, Full}
 use Rattle.rules.specs.declared.Record.{Record}
-use Rattle.rules.specs.declared.Record.TheVariants.{Rw, Ce, Nt, Fp, Mp, En, Refused}
+use Rattle.rules.specs.declared.Record.TheVariants.{Rw, Ce, Nt, Fp, Mp, En}
 
 -- a row, or a refusal and its place
 pub data Read : Type 0 where
@@ -34,7 +34,6 @@ after c (Nt w) = record { place = onward c.place (Nt w); head = c.head; widths =
 after c (Fp x) = record { place = onward c.place (Fp x); head = c.head; widths = c.widths; nets = with_pin (fixed x) c.nets; pins = c.pins + 1 }
 after c (Mp i o) = record { place = onward c.place (Mp i o); head = c.head; widths = c.widths; nets = with_pin (on i o) c.nets; pins = c.pins + 1 }
 after c En = c
-after c (Refused q) = c
 
 -- the sum of some widths
 unfoldable pub total : List ℕ → ℕ
@@ -50,21 +49,21 @@ ended c s =
     (refused Full c.place))
     (refused Tail (onward c.place En))
 
--- by the record that stands next: refused at its place, ended, or on with what `next` reads
-abbrev pub by_record : Reading → List ℕ → Record → Read → Read
-by_record c s (Rw w n m) next = next
-by_record c s (Ce w) next = next
-by_record c s (Nt w) next = next
-by_record c s (Fp x) next = next
-by_record c s (Mp i o) next = next
-by_record c s En next = ended c (drop 2 s)
-by_record c s (Refused q) next = refused q c.place
+-- by what stands next: refused at its place, ended, or on with what `next` reads after the record
+abbrev pub by_record : Reading → List ℕ → Result Record Refusal → (Record → Read) → Read
+by_record c s (Ok (Rw w n m)) next = next (Rw w n m)
+by_record c s (Ok (Ce w)) next = next (Ce w)
+by_record c s (Ok (Nt w)) next = next (Nt w)
+by_record c s (Ok (Fp x)) next = next (Fp x)
+by_record c s (Ok (Mp i o)) next = next (Mp i o)
+by_record c s (Ok En) next = ended c (drop 2 s)
+by_record c s (Err q) next = refused q c.place
 
 -- records one after the other, at most as many as `left` says
 unfoldable pub read_up_to : ℕ → Reading → List ℕ → Read
 read_up_to zero c s = refused Cut c.place
 read_up_to (suc left) c s =
-    by_record c s (record_at c s) (read_up_to left (after c (record_at c s)) (drop (takes (record_at c s)) s))
+    by_record c s (record_at c s) (λ r. read_up_to left (after c r) (drop (takes r) s))
 
 -- the rest of a row: each record takes at least two bytes, so there are fewer records than one more than the bytes
 unfoldable pub read_from : Reading → List ℕ → Read

@@ -12,11 +12,11 @@ pub record Advanced (R : Row) (budget : ℕ) (s t : List ℕ) (r : Sliced) : Typ
   pub ends : r.finished ≡ finished R (run R budget (bench_of R s))
   pub bytes : t ≡ bench_bytes (run R budget (bench_of R s))
 
--- of any bytes: others are left as they are
-pub record SlicedAs (R : Row) (budget : ℕ) (s t : List ℕ) (r : Sliced) : Type 0 where
-  pub form : r.formed ≡ in_form R s
+-- of any bytes: others are refused, and left as they are
+pub record SlicedAs (R : Row) (budget : ℕ) (s t : List ℕ) (r : Result Sliced Refusal) : Type 0 where
+  pub wrong : in_form R s ≡ false → r ≡ Err WrongBench
   pub kept : in_form R s ≡ false → t ≡ s
-  pub moves : in_form R s ≡ true → Advanced R budget s t r
+  pub moves : in_form R s ≡ true → (a : Sliced) × ((r ≡ Ok a) × Advanced R budget s t a)
 
 -- so answer and buffer of the call are told
 pub advanced_outcome : (R : Row) (budget : ℕ) (s t : List ℕ) (r : Sliced) → Advanced R budget s t r

@@ -7,8 +7,7 @@ ghost use Rattle.rules.specs.Sizes.{most_cells, bench_size};
 ghost use Rattle.rules.specs.Row.{Row};
 ghost use Rattle.rules.specs.Steps.{Bench as Meant};
 ghost use Rattle.rules.specs.Bench.{bench_bytes};
-ghost use Rattle.nets.specs.NetLists.{lists_of as nets_of};
-ghost use Rattle.reading.specs.Reads.{Holds, sheet_of};
+ghost use Rattle.reading.specs.Reads.{Holds};
 ghost use Rattle.engine.specs.Laid.{layout_of};
 ghost use Rattle.engine.specs.Stands.{lists_of, Numbers};
 ghost use Rattle.slicing.specs.Sliced.{SlicedAs, Advanced};
@@ -18,31 +17,14 @@ use benches::{Saved, load, store};
 use changes::Kept;
 use engine::{Bench, resume};
 use layout::{lay_out, lay_starts};
-use rules::{Carried, Steps};
+use reading::Sheet;
+use rules::{Carried, Refusal, Steps};
 
-// What a slice answers: whether the bench was in form, and if so how many steps it took and whether all is done.
+// What a slice answers: how many steps it took and whether all is done.
 #[derive(Clone, Copy)]
 pub struct Sliced {
-    pub formed: bool,
     pub steps: Steps,
     pub finished: bool,
-}
-
-// Of a bench that is not in form: no step was taken.
-fn unformed() -> Sliced
-    ensures { result ≡ record { formed = false; steps = record { 0 = 0 }; finished = false } }
-{
-    Sliced {
-        formed: false,
-        steps: Steps(0),
-        finished: false,
-    }
-}
-
-fn wide(x: u16) -> usize
-    ensures { result ≡ x }
-{
-    x as usize
 }
 
 // The work so far, by the numbers that were saved: with a clump in hand, the last one is it, and its cells are the last that were opened. Nothing is
@@ -68,7 +50,7 @@ fn begin(opened: usize, held: bool, clumps: usize, carried: Carried, cells: &[u1
     let last = clumps - 1;
     Bench {
         opened: opened,
-        first: opened - wide(cells[last]),
+        first: opened - usize::from(cells[last]),
         settled: last,
         hand: hand,
         carried: carried,
@@ -111,7 +93,7 @@ fn advance(
     bench: &mut [u8],
 ) -> Sliced
     requires { (length bench.old ≡ bench_size) × ((R : Row) × Begins R bench.old saved width count (layout_of starts.now bounds.now needs.now at.now slope.now) (lists_of cells.old edges.old sizes.old sums.old keys.old)) }
-    ensures formed_value { (result.formed ≡ true) × ((R : Row) → Begins R bench.old saved width count (layout_of starts.now bounds.now needs.now at.now slope.now) (lists_of cells.old edges.old sizes.old sums.old keys.old) → Advanced R budget bench.old bench.new result) }
+    ensures advanced { (R : Row) → Begins R bench.old saved width count (layout_of starts.now bounds.now needs.now at.now slope.now) (lists_of cells.old edges.old sizes.old sums.old keys.old) → Advanced R budget bench.old bench.new result }
     ensures cells_len_unchanged { (length cells.new ≡ length cells.old) × (length edges.new ≡ length edges.old) }
 {
     let carried = saved.carried;
@@ -124,23 +106,12 @@ fn advance(
     save(left, cells, edges, bench);
     let steps = ran.steps;
     let finished = left.finished(count);
-    Sliced {
-        formed: true,
-        steps: steps,
-        finished: finished,
-    }
+    Sliced { steps, finished }
 }
 
 // Of a row that was read, by what was kept of it in lent lists. The other lists are lent to work in: of `bounds` and `needs` every number is 0.
 pub fn slice(
-    width: u32,
-    count: usize,
-    nets: usize,
-    widths: &[u32],
-    weights: &[u32],
-    ends: &[u16],
-    offsets: &[u32],
-    fixed: &[i32],
+    sheet: Sheet<'_>,
     bench: &mut [u8],
     budget: u32,
     starts: &mut [u32],
@@ -154,21 +125,22 @@ pub fn slice(
     sizes: &mut [u16],
     sums: &mut [u32],
     keys: &mut [u32],
-) -> Sliced
-    requires bench_len { (length bench.old ≡ bench_size) × ((R : Row) × Holds (sheet_of width count nets) widths.now (nets_of weights.now ends.now offsets.now fixed.now) R) }
-    requires lent { Lent count nets slots.old (layout_of starts.old bounds.old needs.old at.old slope.old) (lists_of cells.old edges.old sizes.old sums.old keys.old) }
-    ensures { (R : Row) → Holds (sheet_of width count nets) widths.now (nets_of weights.now ends.now offsets.now fixed.now) R → SlicedAs R budget bench.old bench.new result }
+) -> Result<Sliced, Refusal>
+    requires bench_len { (length bench.old ≡ bench_size) × ((R : Row) × Holds sheet.width sheet.widths.now sheet.nets.now R) }
+    requires lent { Lent (length sheet.widths.now) (length sheet.nets.now) slots.old (layout_of starts.old bounds.old needs.old at.old slope.old) (lists_of cells.old edges.old sizes.old sums.old keys.old) }
+    ensures { (R : Row) → Holds sheet.width sheet.widths.now sheet.nets.now R → SlicedAs R budget bench.old bench.new result }
 {
-    lay_starts(widths, count, starts);
-    let saved = load(bench, width, count, starts, cells, edges);
+    let count = sheet.widths.len();
+    lay_starts(sheet.widths, count, starts);
+    let saved = load(bench, sheet.width, count, starts, cells, edges);
     if !saved.formed {
-        return unformed();
+        return Err(Refusal::WrongBench);
     }
     lay_out(
-        weights, ends, offsets, fixed, nets, count, starts, bounds, slots, needs, at, slope,
+        sheet.nets, count, starts, bounds, slots, needs, at, slope,
     );
-    advance(
-        saved, budget, width, count, starts, bounds, needs, at, slope, cells, edges, sizes, sums,
-        keys, bench,
-    )
+    Ok(advance(
+        saved, budget, sheet.width, count, starts, bounds, needs, at, slope, cells, edges, sizes,
+        sums, keys, bench,
+    ))
 }

@@ -2,7 +2,7 @@
 -- Each of the six by its number, and no mark for any other number.
 use Rattle.std.proofs.Common.{rules, tests}
 use Rattle.rules.specs.Records.{mark_of}
-use Rattle.records.proofs.mark_of.Goals as goal
+use Rattle.rules.proofs.MarkTryFromU16.try_from.Goals as goal
 
 pub returns-in-22354 : goal.returns-in-22354
 unfolding mark_of
