@@ -1,13 +1,12 @@
 -- The slope changes of each cell by what is kept of the nets (document 01, "Slope changes"), and what is asked of nets that were read before
 -- their changes are laid out: each on cells of the row, its numbers within their ranges.
-use Rattle.std.specs.Prelude.{ℕ, ◌≤◌, ◌<◌, ◌≡◌, List, [], ◌∷◌, ◌++◌, map, cond, eqb, length, ℤ, pos, neg_ℤ, ◌-ℤ◌}
+use Rattle.std.specs.Prelude.{ℕ, ◌≤◌, ◌<◌, ◌≡◌, List, [], ◌∷◌, ◌++◌, map, cond, eqb, length, get_or, ℤ, pos, neg_ℤ, ◌-ℤ◌}
 use Rattle.numbers.specs.Signed.{above, below}
 use Rattle.rules.specs.Sizes.{widest, most_cells, most_nets, heaviest}
 use Rattle.rules.specs.Row.{Row}
 use Rattle.rules.specs.Changes.{Change}
 use Rattle.nets.specs.declared.Net.{Net}
-use Rattle.nets.specs.Summary.{summary}
-use Rattle.nets.specs.NetLists.{NetLists, Room, net_at, nets_to}
+use Rattle.nets.specs.Summary.{summary, nothing}
 
 -- at fl less the offset on L, with minus the weight; at fr less the offset on R, with plus the weight
 abbrev pub left_kept : Net → Change
@@ -25,10 +24,6 @@ unfoldable pub kept_on : ℕ → List Net → List Change
 kept_on i [] = []
 kept_on i (n ∷ ns) = on_cell n.left (left_kept n) i ++ (on_cell n.right (right_kept n) i ++ kept_on i ns)
 
--- those of the first k nets, cell by cell
-abbrev pub kept_in : NetLists → ℕ → ℕ → List Change
-kept_in ls k i = kept_on i (nets_to ls k)
-
 -- not farther from site 0 than a row is wide
 abbrev pub Near : ℤ → Type 0
 Near x = (above x ≤ widest) × (below x ≤ widest)
@@ -44,14 +39,12 @@ pub record Ranged (cells : ℕ) (n : Net) : Type 0 where
   pub light : n.weight.0 ≤ heaviest
 
 -- what the code asks of the nets of a row
-pub record Ready (ls : NetLists) (nets cells : ℕ) : Type 0 where
-  pub few_nets : nets ≤ most_nets
+pub record Ready (ns : List Net) (cells : ℕ) : Type 0 where
+  pub few_nets : length ns ≤ most_nets
   pub few_cells : cells ≤ most_cells
-  pub room : Room ls nets
-  pub each : (k : ℕ) → k < nets → Ranged cells (net_at ls k)
+  pub each : (k : ℕ) → k < length ns → Ranged cells (get_or ns k nothing)
 
--- the first `nets` of them are what is kept of the row's nets
-pub record Nets (R : Row) (ls : NetLists) (nets cells : ℕ) : Type 0 where
+-- they are what is kept of the row's nets
+pub record Nets (R : Row) (ns : List Net) (cells : ℕ) : Type 0 where
   pub cells_are : cells ≡ length R.widths
-  pub nets_are : nets ≡ length R.nets
-  pub kept : nets_to ls nets ≡ map (summary R.width) R.nets
+  pub kept : ns ≡ map (summary R.width) R.nets

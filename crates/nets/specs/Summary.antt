@@ -21,6 +21,10 @@ summary W t = record {
   fr = right_fixed (fixed_of t.pins);
 }
 
+-- what a list reads as past its end
+abbrev pub nothing : Net
+nothing = record { weight = record { 0 = 0 }; left = 0; right = 0; onleft = 0; onright = 0; fl = pos 0; fr = pos 0 }
+
 -- what is kept of its pins on cells, and of its fixed pins, while it is read: nothing where it has none
 unfoldable pub ends_of : Listed → Option Ends
 ends_of t =
