@@ -1,5 +1,5 @@
 -- What the functions of the bench promise: what is loaded from saved bytes, and what has to be handed over to be written.
-use Rattle.std.specs.Prelude.{◌≡◌, ℕ, zero, suc, ◌-◌, ◌≤◌, ◌<◌, List, [], ◌∷◌, ◌++◌, Bool, true, false, cond, ◌&&◌, length, get_or, take, eqb}
+use Rattle.std.specs.Prelude.{◌≡◌, ℕ, zero, suc, ◌-◌, ◌≤◌, ◌<◌, List, [], ◌∷◌, ◌++◌, Bool, true, false, cond, ◌&&◌, length, get_or, take, eqb, Option, Some, None}
 use Rattle.numbers.specs.Bytes.{u16_bytes, u32_bytes}
 use Rattle.rules.specs.Row.{Row}
 use Rattle.rules.specs.Reading.{total}
@@ -12,18 +12,21 @@ use Rattle.benches.specs.declared.Saved.{Saved}
 abbrev pub head_of : List ℕ → Saved
 head_of s =
     record {
-      formed = false;
       opened = saved_opened s;
       held = eqb (saved_hand s) 1;
       clumps = saved_clumps s;
       carried = record { 0 = saved_carried s };
     }
 
--- the row that the numbers of a call are taken from
-pub record Told (R : Row) (width count : ℕ) (ends : List ℕ) : Type 0 where
+-- how many of its clumps are settled
+abbrev pub settled_of : Saved → ℕ
+settled_of r = r.clumps - cond r.held 1 0
+
+-- the row that the numbers of a call are taken from: its width, and the widths of its first 0, 1, 2 .. cells together
+pub record Told (R : Row) (width : ℕ) (ends : List ℕ) : Type 0 where
   pub wide : width ≡ R.width
-  pub many : count ≡ length R.widths
-  pub sums : (i : ℕ) → i ≤ count → get_or ends i 0 ≡ total (take i R.widths)
+  pub many : length ends ≡ length R.widths + 1
+  pub sums : (i : ℕ) → i ≤ length R.widths → get_or ends i 0 ≡ total (take i R.widths)
 
 -- what saved bytes say is told, number by number and clump by clump
 pub record Tells (s cells edges : List ℕ) (r : Saved) : Type 0 where
@@ -34,20 +37,19 @@ pub record Tells (s cells edges : List ℕ) (r : Saved) : Type 0 where
   pub cells_are : (k : ℕ) → k < saved_clumps s → get_or cells k 0 ≡ saved_cells s k
   pub edges_are : (k : ℕ) → k < saved_clumps s → get_or edges k 0 ≡ saved_edge s k
 
--- told in form exactly where they are, and then all that they say
-pub record Loaded (R : Row) (s cells edges : List ℕ) (r : Saved) : Type 0 where
-  pub form : r.formed ≡ in_form R s
-  pub tells : in_form R s ≡ true → Tells s cells edges r
+-- told exactly where they are in form, and then all that they say
+abbrev pub Loads : Option Saved → Row → List ℕ → List ℕ → List ℕ → Type 0
+Loads (Some r) R s cells edges = (in_form R s ≡ true) × Tells s cells edges r
+Loads None R s cells edges = in_form R s ≡ false
 
--- after the clumps: the head as it was, in form where all clumps fit and their cells add to those opened, and then each clump
-pub record Parted (head : Saved) (s : List ℕ) (width : ℕ) (ends cells edges : List ℕ) (r : Saved) : Type 0 where
-  pub form : r.formed ≡ (parts_fit ends s width head.opened (head.clumps - cond head.held 1 0) head.clumps && eqb (cells_before s head.clumps) head.opened)
-  pub opened : r.opened ≡ head.opened
-  pub held : r.held ≡ head.held
-  pub clumps : r.clumps ≡ head.clumps
-  pub carried : r.carried ≡ head.carried
-  pub cells_are : r.formed ≡ true → (k : ℕ) → k < head.clumps → get_or cells k 0 ≡ saved_cells s k
-  pub edges_are : r.formed ≡ true → (k : ℕ) → k < head.clumps → get_or edges k 0 ≡ saved_edge s k
+abbrev pub Loaded : Row → List ℕ → List ℕ → List ℕ → Option Saved → Type 0
+Loaded R s cells edges r = Loads r R s cells edges
+
+-- after the clumps: in form where all of them fit and their cells add to those opened, and then each clump is told
+pub record Parted (head : Saved) (s : List ℕ) (width : ℕ) (ends cells edges : List ℕ) (r : Bool) : Type 0 where
+  pub form : r ≡ (parts_fit ends s width head.opened (settled_of head) head.clumps && eqb (cells_before s head.clumps) head.opened)
+  pub cells_are : r ≡ true → (k : ℕ) → k < head.clumps → get_or cells k 0 ≡ saved_cells s k
+  pub edges_are : r ≡ true → (k : ℕ) → k < head.clumps → get_or edges k 0 ≡ saved_edge s k
 
 -- the mark and the four numbers of a bench, as bytes
 unfoldable pub head_bytes : ℕ → ℕ → ℕ → ℕ → List ℕ

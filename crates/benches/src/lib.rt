@@ -2,42 +2,50 @@
 // Any 1,547 bytes may come in: every number is read as it stands, and no place past the buffer or past the lists is touched.
 #![tactic(auto)]
 
-ghost use Rattle.std.specs.Prelude.{◌≡◌, ◌++◌, true, false, cond, ◌&&◌, ◌+◌, ◌-◌, ◌*◌, ◌≤◌, ◌<◌, max, length, drop, replicate};
+ghost use Rattle.std.specs.Prelude.{◌≡◌, ◌++◌, cond, ◌-◌, ◌*◌, ◌+◌, ◌≤◌, ◌<◌, length, drop, replicate, take, map};
 ghost use Rattle.rules.specs.Sizes.{most_cells, part_size, bench_size};
 ghost use Rattle.rules.specs.Row.{Row};
 ghost use Rattle.rules.specs.Steps.{Bench};
 ghost use Rattle.rules.specs.Bench.{all_zero, bench_bytes, fresh};
+ghost use Rattle.changes.specs.Columns.{cells_of, edges_of};
+ghost use Rattle.layout.specs.Columns.{starts_of};
 ghost use Rattle.benches.specs.Fits.{has_mark, counts_fit, head_fits, ends_by, cells_fit, edge_fits};
-ghost use Rattle.benches.specs.Saved.{head_of, Parted, Told, Loaded, Written, head_bytes};
+ghost use Rattle.benches.specs.Saved.{head_of, settled_of, Parted, Told, Loaded, Written, head_bytes};
 
-// What saved bytes say: whether they are in form, and if so their numbers. The cells and left edge of each clump, the one in hand last, go to lent lists.
+use changes::Clump;
+use layout::Place;
+use rules::Carried;
+
+// What saved bytes in form say: how many cells are opened, whether a clump is in hand, how many clumps there are, and the changes carried. The cells and
+// left edge of each clump, the one in hand last, go to a lent list.
 #[derive(Clone, Copy)]
 pub struct Saved {
-    pub formed: bool,
     pub opened: usize,
     pub held: bool,
     pub clumps: usize,
-    pub carried: rules::Carried,
+    pub carried: Carried,
 }
 
-// A byte as a number among others.
-fn wide(x: u8) -> usize
-    ensures { result ≡ x }
-{
-    x as usize
-}
+impl Saved {
+    // The numbers of the head.
+    fn read(bench: &[u8]) -> Self
+        requires { length bench.now ≡ bench_size }
+        ensures { result ≡ head_of bench.now }
+    {
+        Saved {
+            opened: usize::from(numbers::u16_at(bench, 2)),
+            held: bench[4] == 1,
+            clumps: usize::from(numbers::u16_at(bench, 5)),
+            carried: Carried(numbers::u32_at(bench, 7)),
+        }
+    }
 
-// The numbers of the head, and no clump yet.
-fn head_of(bench: &[u8]) -> Saved
-    requires { length bench.now ≡ bench_size }
-    ensures { result ≡ head_of bench.now }
-{
-    Saved {
-        formed: false,
-        opened: numbers::u16_at(bench, 2) as usize,
-        held: bench[4] == 1,
-        clumps: numbers::u16_at(bench, 5) as usize,
-        carried: rules::Carried(numbers::u32_at(bench, 7)),
+    // How many of the clumps are settled.
+    pub fn settled(self) -> usize
+        requires { cond self.held 1 0 ≤ self.clumps }
+        ensures { result ≡ settled_of self }
+    {
+        self.clumps - usize::from(self.held)
     }
 }
 
@@ -51,53 +59,38 @@ fn has_mark(bench: &[u8]) -> bool
 
 // Each number of the head within its limit.
 #[tactic(auto, unfolding(crate::specs::Fits::counts_fit))]
-fn counts_fit(count: usize, opened: usize, hand: usize, clumps: usize, carried: u32) -> bool
+fn counts_fit(count: usize, opened: usize, hand: u8, clumps: usize, carried: u32) -> bool
     ensures { result ≡ counts_fit count opened hand clumps carried }
 {
-    if rules::MOST_CELLS < clumps {
-        return false;
-    }
-    if count < opened {
-        return false;
-    }
-    if 1 < hand {
-        return false;
-    }
-    if clumps < hand {
-        return false;
-    }
-    carried <= rules::MOST_CARRIED
+    clumps <= rules::MOST_CELLS
+        && opened <= count
+        && hand <= 1
+        && usize::from(hand) <= clumps
+        && carried <= rules::MOST_CARRIED
 }
 
 fn head_fits(bench: &[u8], count: usize) -> bool
     requires { length bench.now ≡ bench_size }
     ensures { result ≡ head_fits count bench.now }
 {
-    if !has_mark(bench) {
-        return false;
-    }
-    let opened = numbers::u16_at(bench, 2) as usize;
-    let clumps = numbers::u16_at(bench, 5) as usize;
-    let carried = numbers::u32_at(bench, 7);
-    counts_fit(count, opened, wide(bench[4]), clumps, carried)
-}
-
-fn larger(a: u8, b: u8) -> u8
-    ensures { result ≡ max a b }
-{
-    if a < b { b } else { a }
+    has_mark(bench)
+        && counts_fit(
+            count,
+            usize::from(numbers::u16_at(bench, 2)),
+            bench[4],
+            usize::from(numbers::u16_at(bench, 5)),
+            numbers::u32_at(bench, 7),
+        )
 }
 
 // Are all bytes from a place on 0? The largest of them tells, without a test at each.
 fn zero_from(bench: &[u8], from: usize) -> bool
-    requires { (length bench.now ≡ bench_size) × (from ≤ length bench.now) }
+    requires { from ≤ length bench.now }
     ensures { result ≡ all_zero (drop from bench.now) }
 {
-    let mut most: u8 = 0;
-    let mut i = from;
-    while i < bench.len() {
-        most = larger(most, bench[i]);
-        i += 1;
+    let mut most = 0;
+    for byte in &bench[from..] {
+        most = byte.max(most);
     }
     most == 0
 }
@@ -106,7 +99,7 @@ fn zero_from(bench: &[u8], from: usize) -> bool
 fn ends_by(edge: u32, limit: u32, from: u32, to: u32) -> bool
     ensures { result ≡ ends_by edge limit from to }
 {
-    edge as u64 + to as u64 <= limit as u64 + from as u64
+    u64::from(edge) + u64::from(to) <= u64::from(limit) + u64::from(from)
 }
 
 // A clump has a cell, and none that is not opened.
@@ -123,121 +116,88 @@ fn edge_fits(settled: bool, edge: u32, after: bool, within: bool) -> bool
     if settled { after && within } else { edge == 0 }
 }
 
-// How many of the clumps are settled.
-fn settled_of(held: bool, clumps: usize) -> usize
-    requires { cond held 1 0 ≤ clumps }
-    ensures { result ≡ clumps - cond held 1 0 }
-{
-    if held { clumps - 1 } else { clumps }
-}
-
-// The clumps, one after the other, as far as they fit: in form where all do and their cells add to those opened.
-fn parts_of(
+// The clumps, one after the other: in form where all fit and their cells add to those opened.
+fn parts_fit(
     head: Saved,
     bench: &[u8],
     width: u32,
-    starts: &[u32],
-    cells: &mut [u16],
-    edges: &mut [u32],
-) -> Saved
+    places: &[Place],
+    clumps: &mut [Clump],
+) -> bool
     requires bench_len { length bench.now ≡ bench_size }
-    requires clumps_le_most_cells { (head.clumps ≤ most_cells) × (cond head.held 1 0 ≤ head.clumps) × (head.formed ≡ false) }
-    requires opened_le_most_cells { (head.opened ≤ most_cells) × (head.opened + 1 ≤ length starts.now) × (head.opened ≤ length cells.old) × (head.opened ≤ length edges.old) }
-    ensures parted { Parted head bench.now width starts.now cells.new edges.new result }
-    ensures cells_len_unchanged { (length cells.new ≡ length cells.old) × (length edges.new ≡ length edges.old) }
+    requires clumps_le_most_cells { (head.clumps ≤ most_cells) × (cond head.held 1 0 ≤ head.clumps) }
+    requires opened_le_most_cells { (head.opened ≤ most_cells) × (head.opened + 1 ≤ length places.now) × (head.opened ≤ length clumps.old) }
+    ensures parted { Parted head bench.now width (starts_of places.now) (cells_of clumps.new) (edges_of clumps.new) result }
+    ensures clumps_len_unchanged { length clumps.new ≡ length clumps.old }
 {
-    let mut saved = head;
-    let clumps = saved.clumps;
-    let opened = saved.opened;
-    let settled = settled_of(saved.held, clumps);
-    let mut last: usize = 0;
-    let mut left: u32 = 0;
-    let mut first: usize = 0;
-    let mut k: usize = 0;
-    while k < clumps {
+    let settled = head.settled();
+    let mut last = 0;
+    let mut left = 0;
+    let mut first = 0;
+    for k in 0..head.clumps {
         let at = rules::HEAD_SIZE + rules::PART_SIZE * k;
-        let count = numbers::u16_at(bench, at);
+        let cells = numbers::u16_at(bench, at);
         let edge = numbers::u32_at(bench, at + 2);
-        let next = first + count as usize;
-        if !cells_fit(first, next, opened) {
-            return saved;
+        let next = first + usize::from(cells);
+        if !cells_fit(first, next, head.opened) {
+            return false;
         }
-        let after = ends_by(left, edge, starts[last], starts[first]);
-        let within = ends_by(edge, width, starts[first], starts[next]);
+        let start = places[first].start;
+        let after = ends_by(left, edge, places[last].start, start);
+        let within = ends_by(edge, width, start, places[next].start);
         if !edge_fits(k < settled, edge, after, within) {
-            return saved;
+            return false;
         }
-        cells[k] = count;
-        edges[k] = edge;
+        clumps[k].cells = cells;
+        clumps[k].edge = edge;
         last = first;
         left = edge;
         first = next;
-        k += 1;
     }
-    saved.formed = first == opened;
-    saved
+    first == head.opened
 }
 
-// The bench that saved bytes say, for a row of `count` cells in a width; starts[i] is the width of its first i cells together.
-pub fn load(
-    bench: &[u8],
-    width: u32,
-    count: usize,
-    starts: &[u32],
-    cells: &mut [u16],
-    edges: &mut [u32],
-) -> Saved
-    requires bench_len { (length bench.now ≡ bench_size) × (count ≤ most_cells) }
-    requires count_in_bounds { (count + 1 ≤ length starts.now) × (count ≤ length cells.old) × (count ≤ length edges.old) }
-    ensures loaded { (R : Row) → Told R width count starts.now → Loaded R bench.now cells.new edges.new result }
-    ensures cells_len_unchanged { (length cells.new ≡ length cells.old) × (length edges.new ≡ length edges.old) }
+// The bench that saved bytes say, where they are in form, for a row of this width with a place for each cell and one past the last.
+pub fn load(bench: &[u8], width: u32, places: &[Place], clumps: &mut [Clump]) -> Option<Saved>
+    requires bench_len { length bench.now ≡ bench_size }
+    requires places_in_bounds { (1 ≤ length places.now) × (length places.now ≤ most_cells + 1) × (length places.now ≤ length clumps.old + 1) }
+    ensures loaded { (R : Row) → Told R width (starts_of places.now) → Loaded R bench.now (cells_of clumps.new) (edges_of clumps.new) result }
+    ensures clumps_len_unchanged { length clumps.new ≡ length clumps.old }
 {
-    let head = head_of(bench);
-    if !head_fits(bench, count) {
-        return head;
+    let head = Saved::read(bench);
+    if head_fits(bench, places.len() - 1)
+        && zero_from(bench, rules::HEAD_SIZE + rules::PART_SIZE * head.clumps)
+        && parts_fit(head, bench, width, places, clumps)
+    {
+        return Some(head);
     }
-    let clumps = head.clumps;
-    if !zero_from(bench, rules::HEAD_SIZE + rules::PART_SIZE * clumps) {
-        return head;
-    }
-    parts_of(head, bench, width, starts, cells, edges)
+    None
 }
 
 // The mark and the numbers of a bench, and every byte after them 0.
-fn store_head(bench: &mut [u8], opened: usize, held: bool, clumps: usize, carried: rules::Carried)
+fn store_head(bench: &mut [u8], opened: usize, held: bool, clumps: usize, carried: Carried)
     requires { (length bench.old ≡ bench_size) × ((opened ≤ most_cells) × (clumps ≤ most_cells)) }
     ensures { bench.new ≡ head_bytes opened (cond held 1 0) clumps carried.0 ++ replicate (part_size * most_cells) 0 }
 {
-    numbers::clear(bench);
+    bench.fill(0);
     bench[0] = b'B';
     bench[1] = b'N';
     numbers::put_u16(bench, 2, opened as u16);
-    bench[4] = held as u8;
+    bench[4] = u8::from(held);
     numbers::put_u16(bench, 5, clumps as u16);
     numbers::put_u32(bench, 7, carried.0);
 }
 
 // A bench as bytes: its head, then the cells and left edge of each clump.
-pub fn store(
-    bench: &mut [u8],
-    opened: usize,
-    held: bool,
-    clumps: usize,
-    carried: rules::Carried,
-    cells: &[u16],
-    edges: &[u32],
-)
-    requires bench_len { (length bench.old ≡ bench_size) × ((opened ≤ most_cells) × (clumps ≤ most_cells)) }
-    requires clumps_in_bounds { (clumps ≤ length cells.now) × (clumps ≤ length edges.now) }
-    ensures { (b : Bench) → Written opened held clumps carried.0 cells.now edges.now b → bench.new ≡ bench_bytes b }
+pub fn store(bench: &mut [u8], opened: usize, held: bool, carried: Carried, clumps: &[Clump])
+    requires { (length bench.old ≡ bench_size) × ((opened ≤ most_cells) × (length clumps.now ≤ most_cells)) }
+    ensures { (b : Bench) → Written opened held (length clumps.now) carried.0 (cells_of clumps.now) (edges_of clumps.now) b → bench.new ≡ bench_bytes b }
 {
-    store_head(bench, opened, held, clumps, carried);
-    let mut k: usize = 0;
-    while k < clumps {
+    store_head(bench, opened, held, clumps.len(), carried);
+    for (k, clump) in clumps.iter().enumerate() {
         let at = rules::HEAD_SIZE + rules::PART_SIZE * k;
-        numbers::put_u16(bench, at, cells[k]);
-        numbers::put_u32(bench, at + 2, edges[k]);
-        k += 1;
+        numbers::put_u16(bench, at, clump.cells);
+        numbers::put_u32(bench, at + 2, clump.edge);
     }
 }
 
@@ -246,5 +206,5 @@ pub fn store_fresh(bench: &mut [u8])
     requires { length bench.old ≡ bench_size }
     ensures { bench.new ≡ bench_bytes fresh }
 {
-    store_head(bench, 0, false, 0, rules::Carried(0));
+    store_head(bench, 0, false, 0, Carried(0));
 }

@@ -1,7 +1,7 @@
--- How the changes of a row lie in the lists that are lent (document 01, "Slope changes"): cell after cell, each cell's counted from its packed
+-- How the changes of a row lie in the list that is lent (document 01, "Slope changes"): cell after cell, each cell's counted from its packed
 -- place. Beside them lie, for each cell and past the last, its packed place, how many changes lie before it, and what those need.
 use Prim.Native.Nat.{ℕ, zero, suc, ◌+◌, ◌-◌, ◌*◌, ◌≤◌}
-use Rattle.std.specs.Prelude.{◌≡◌, Bool, true, false, cond, List, [], ◌∷◌, ◌++◌, length, get_or, eqb, ℤ}
+use Rattle.std.specs.Prelude.{◌≡◌, Bool, true, false, cond, List, [], ◌∷◌, ◌++◌, length, get_or, eqb}
 use Rattle.std.proofs.Math.Path.{refl}
 use Rattle.std.proofs.Common.{ap, sym, ◌∙◌, add-zero, add-suc, arith, length-append, eqb-true}
 use Rattle.rules.specs.Sizes.{widest, most_cells, most_nets}
@@ -17,6 +17,9 @@ use Rattle.slopes.specs.Sizes.{need, need_append, need_moved}
 use Rattle.slopes.specs.Frame.{packed, framed, framed_none, framed_suc, made_framed}
 use Rattle.slopes.specs.Stretches.{stretch_of}
 use Rattle.changes.specs.Fills.{most_changes, Weighed}
+use Rattle.layout.specs.Columns.{starts_of, bounds_of, needs_of}
+use Rattle.layout.specs.declared.Place.{Place}
+use Rattle.layout.specs.declared.Layout.{Layout as Held}
 
 -- the changes of the cells before a cell: how many, and what they need
 unfoldable pub held_before : Row → ℕ → ℕ
@@ -25,31 +28,33 @@ held_before R i = sum_to (λ k. length (changes_of R k)) i
 unfoldable pub need_before : Row → ℕ → ℕ
 need_before R i = sum_to (λ k. need (changes_of R k)) i
 
--- the lists that a row is laid out in: for each cell and past the last, its packed place, how many changes lie before it, and what those need; and the
+-- what a row is laid out in: for each cell and past the last, its packed place, how many changes lie before it, and what those need; and the
 -- changes themselves
 pub record Layout : Type 0 where
   pub starts : List ℕ
   pub bounds : List ℕ
   pub needs : List ℕ
-  pub at : List ℤ
-  pub slope : List ℤ
+  pub changes : List Change
 
-abbrev pub layout_of : List ℕ → List ℕ → List ℕ → List ℤ → List ℤ → Layout
-layout_of starts bounds needs at slope = record { starts = starts; bounds = bounds; needs = needs; at = at; slope = slope }
+-- what the code holds of it
+abbrev pub layout_of : List Place → List Change → Layout
+layout_of ps cs = record { starts = starts_of ps; bounds = bounds_of ps; needs = needs_of ps; changes = cs }
+
+abbrev pub seen : Held → Layout
+seen row = layout_of row.places.now row.changes.now
 
 -- a row that is laid out in these lists, and that has room for its cells
 pub record Laid (R : Row) (y : Layout) : Type 0 where
-  pub starts_long : length R.widths + 1 ≤ length y.starts
-  pub bounds_long : length R.widths + 1 ≤ length y.bounds
-  pub needs_long : length R.widths + 1 ≤ length y.needs
+  pub starts_long : length y.starts ≡ length R.widths + 1
+  pub bounds_long : length y.bounds ≡ length R.widths + 1
+  pub needs_long : length y.needs ≡ length R.widths + 1
   pub start_at : (i : ℕ) → i ≤ length R.widths → get_or y.starts i 0 ≡ packed R i
   pub bound_at : (i : ℕ) → i ≤ length R.widths → get_or y.bounds i 0 ≡ held_before R i
   pub need_at : (i : ℕ) → i ≤ length R.widths → get_or y.needs i 0 ≡ need_before R i
-  pub at_long : held_before R (length R.widths) ≤ length y.at
-  pub slope_long : held_before R (length R.widths) ≤ length y.slope
-  pub weighed : Weighed y.slope 0 (held_before R (length R.widths))
+  pub changes_long : held_before R (length R.widths) ≤ length y.changes
+  pub weighed : Weighed y.changes 0 (held_before R (length R.widths))
   pub stretch : (a n : ℕ) → a + n ≤ length R.widths
-      → stretch_of y.at y.slope (held_before R a) (held_before R (a + n) - held_before R a) ≡ framed R a n
+      → stretch_of y.changes (held_before R a) (held_before R (a + n) - held_before R a) ≡ framed R a n
   pub room : total R.widths ≤ R.width
   pub width_most : R.width ≤ widest
   pub few_cells : length R.widths ≤ most_cells

@@ -4,6 +4,8 @@ use Rattle.rules.specs.Row.{Row}
 use Rattle.rules.specs.Steps.{Bench as Meant, finished, step, run, steps_taken}
 use Rattle.engine.specs.Laid.{Layout, Laid}
 use Rattle.engine.specs.Stands.{Lists, Numbers, Roomy, Stands}
+use Rattle.changes.specs.Columns.{cells_of, edges_of}
+use Rattle.changes.specs.declared.Clump.{Clump}
 use Rattle.engine.specs.declared.Bench.{Bench}
 use Rattle.engine.specs.declared.Ran.{Ran}
 
@@ -27,23 +29,18 @@ StepsAs width y e ls r ls' =
 
 -- ---- a run
 
-pub record Counted (count width : ℕ) (y : Layout) (e : Bench) (ls : Lists) : Type 0 where
-  pub ready : Ready width y e ls
-  pub count_is : count ≡ length ready.row.widths
-
-abbrev pub RunsAs : ℕ → ℕ → ℕ → Layout → Bench → Lists → Ran → Lists → Type 0
-RunsAs budget count width y e ls r ls' =
-    (R : Row) (b : Meant) → width ≡ R.width → count ≡ length R.widths → Laid R y → Stands R y e ls b
+abbrev pub RunsAs : ℕ → ℕ → Layout → Bench → Lists → Ran → Lists → Type 0
+RunsAs budget width y e ls r ls' =
+    (R : Row) (b : Meant) → width ≡ R.width → Laid R y → Stands R y e ls b
     → Stands R y r.bench ls' (run R budget b) × (r.steps.0 ≡ steps_taken R budget b)
 
 -- ---- from a bench that was loaded
 
 -- only its numbers stand, and heaps are still to be made
-pub record Resumes (count width : ℕ) (y : Layout) (e : Bench) (ls : Lists) : Type 0 where
+pub record Resumes (width : ℕ) (y : Layout) (e : Bench) (ls : Lists) : Type 0 where
   pub row : Row
   pub bench : Meant
   pub width_is : width ≡ row.width
-  pub count_is : count ≡ length row.widths
   pub laid : Laid row y
   pub numbers : Numbers row e ls.cells ls.edges bench
   pub roomy : Roomy row ls
@@ -52,8 +49,8 @@ abbrev pub RemadeAs : ℕ → Layout → Bench → Lists → Bench → Lists →
 RemadeAs width y e ls r ls' =
     (R : Row) (b : Meant) → width ≡ R.width → Laid R y → Numbers R e ls.cells ls.edges b → Roomy R ls → Stands R y r ls' b
 
-abbrev pub ResumesAs : ℕ → ℕ → ℕ → Layout → Bench → Lists → Ran → List ℕ → List ℕ → Type 0
-ResumesAs budget count width y e ls r cells edges =
-    (R : Row) (b : Meant) → width ≡ R.width → count ≡ length R.widths → Laid R y → Numbers R e ls.cells ls.edges b → Roomy R ls
-    → Numbers R r.bench cells edges (run R budget b) × (r.steps.0 ≡ steps_taken R budget b)
-    × (length R.widths ≤ length cells) × (length R.widths ≤ length edges)
+abbrev pub ResumesAs : ℕ → ℕ → Layout → Bench → Lists → Ran → List Clump → Type 0
+ResumesAs budget width y e ls r clumps =
+    (R : Row) (b : Meant) → width ≡ R.width → Laid R y → Numbers R e ls.cells ls.edges b → Roomy R ls
+    → Numbers R r.bench (cells_of clumps) (edges_of clumps) (run R budget b) × (r.steps.0 ≡ steps_taken R budget b)
+    × (length R.widths ≤ length clumps)

@@ -8,6 +8,8 @@ use Rattle.rules.specs.Bench.{apart}
 use Rattle.slopes.specs.Frame.{packed}
 use Rattle.slopes.specs.Forgotten.{cells_in, all_clumps, Proper}
 use Rattle.changes.specs.Fills.{most_changes, Filled}
+use Rattle.changes.specs.Columns.{cells_of, edges_of, sizes_of, sums_of}
+use Rattle.changes.specs.declared.Clump.{Clump as Held}
 use Rattle.changes.specs.declared.Kept.{Kept}
 use Rattle.engine.specs.Laid.{held_before, Layout}
 use Rattle.engine.specs.declared.Bench.{Bench}
@@ -20,8 +22,9 @@ pub record Lists : Type 0 where
   pub sums : List ℕ
   pub keys : List ℕ
 
-abbrev pub lists_of : List ℕ → List ℕ → List ℕ → List ℕ → List ℕ → Lists
-lists_of cells edges sizes sums keys = record { cells = cells; edges = edges; sizes = sizes; sums = sums; keys = keys }
+-- as the code holds them
+abbrev pub lists_of : List Held → List ℕ → Lists
+lists_of cs keys = record { cells = cells_of cs; edges = edges_of cs; sizes = sizes_of cs; sums = sums_of cs; keys = keys }
 
 -- ---- sites counted from where a clump would start if all cells lay packed to the left
 
@@ -38,7 +41,7 @@ limit_of R opened = R.width - packed R opened
 
 -- so many cells from `first` on have their changes in a heap, as far as they are kept
 abbrev pub InHeap : Row → Layout → List ℕ → ℕ → ℕ → Kept → Type 0
-InHeap R y keys first cells k = Filled keys y.at y.slope (held_before R first) (held_before R first) (held_before R (first + cells)) k
+InHeap R y keys first cells k = Filled keys y.changes (held_before R first) (held_before R first) (held_before R (first + cells)) k
 
 -- what is kept of the clump c that was settled after these
 abbrev pub kept_of : Row → Lists → Clump → List Clump → Kept

@@ -11,10 +11,12 @@ ghost use Rattle.rules.specs.Calls.{bit, check_call, fresh_call, slice_call, pla
 ghost use Rattle.reading.specs.Reads.{Roomy};
 ghost use Rattle.lugsheet.specs.Answers.{answered};
 
+use changes::Clump;
+use layout::Place;
 use nets::Net;
 use reading::read_row;
 use rules::{
-    BENCH_SIZE, ENDS, FEW_CELLS, FEW_CHANGES, FEW_ENDS, FEW_NETS, MOST_CELLS, MOST_CHANGES,
+    BENCH_SIZE, Change, ENDS, FEW_CELLS, FEW_CHANGES, FEW_ENDS, FEW_NETS, MOST_CELLS, MOST_CHANGES,
     MOST_NETS, Refusal, Refused,
 };
 use slicing::Sliced;
@@ -156,31 +158,17 @@ fn slice<const CELLS: usize, const NETS: usize, const ENDS: usize, const CHANGES
     if bench.len() != BENCH_SIZE {
         return unmet(Refusal::Room);
     }
-    let mut starts = [0; ENDS];
-    let mut bounds = [0; ENDS];
-    let mut slots = [0; ENDS];
-    let mut needs = [0; ENDS];
-    let mut at = [0; CHANGES];
-    let mut slope = [0; CHANGES];
-    let mut cells = [0; CELLS];
-    let mut edges = [0; CELLS];
-    let mut sizes = [0; CELLS];
-    let mut sums = [0; CELLS];
+    let mut places = [Place::default(); ENDS];
+    let mut changes = [Change::default(); CHANGES];
+    let mut clumps = [Clump::default(); CELLS];
     let mut keys = [0; CHANGES];
     match slicing::slice(
         sheet,
         bench,
         budget,
-        &mut starts,
-        &mut bounds,
-        &mut slots,
-        &mut needs,
-        &mut at,
-        &mut slope,
-        &mut cells,
-        &mut edges,
-        &mut sizes,
-        &mut sums,
+        &mut places,
+        &mut changes,
+        &mut clumps,
         &mut keys,
     ) {
         Ok(sliced) => Ok(sliced_answer(sliced)),
@@ -217,17 +205,9 @@ fn placement_of<const CELLS: usize, const NETS: usize, const ENDS: usize>(
     if bench.len() != BENCH_SIZE || placement.len() != 4 * sheet.widths.len() {
         return unmet(Refusal::Room);
     }
-    let mut starts = [0; ENDS];
-    let mut counts = [0; CELLS];
-    let mut edges = [0; CELLS];
-    match placing::place(
-        sheet,
-        bench,
-        placement,
-        &mut starts,
-        &mut counts,
-        &mut edges,
-    ) {
+    let mut places = [Place::default(); ENDS];
+    let mut clumps = [Clump::default(); CELLS];
+    match placing::place(sheet, bench, placement, &mut places, &mut clumps) {
         Ok(length) => Ok(length),
         Err(refusal) => unmet(refusal),
     }

@@ -16,14 +16,13 @@ pub record Fits (ws placement : List ℕ) (first end edge : ℕ) : Type 0 where
   pub near : edge + total (take (end - first) (drop first ws)) ≤ widest
 
 -- the clumps that saved bytes say, for the row whose widths begin a longer list
-pub record Ready (R : Row) (s : List ℕ) (clumps : ℕ) (counts edges ws placement : List ℕ) : Type 0 where
+pub record Ready (R : Row) (s : List ℕ) (counts edges ws placement : List ℕ) : Type 0 where
   pub form : in_form R s ≡ true
   pub ends : finished R (bench_of R s) ≡ true
-  pub clumps_are : clumps ≡ saved_clumps s
+  pub clumps_are : length counts ≡ saved_clumps s
   pub counts_are : (k : ℕ) → k < saved_clumps s → get_or counts k 0 ≡ saved_cells s k
   pub edges_are : (k : ℕ) → k < saved_clumps s → get_or edges k 0 ≡ saved_edge s k
-  pub counts_long : length R.widths ≤ length counts
-  pub edges_long : length R.widths ≤ length edges
+  pub edges_long : length edges ≡ length counts
   pub widths : (i : ℕ) → i < length R.widths → get_or ws i 0 ≡ get_or R.widths i 0
   pub long : length R.widths ≤ length ws
   pub few : length R.widths ≤ most_cells

@@ -8,10 +8,13 @@ ghost use Rattle.rules.specs.Row.{Row};
 ghost use Rattle.rules.specs.Bench.{bench_of};
 ghost use Rattle.rules.specs.Calls.{packed, positions, site_bytes};
 ghost use Rattle.reading.specs.Reads.{Holds};
+ghost use Rattle.changes.specs.Columns.{cells_of, edges_of};
 ghost use Rattle.placing.specs.Sites.{over};
 ghost use Rattle.placing.specs.Puts.{Fits, Ready};
 ghost use Rattle.placing.specs.PlacedAs.{PlacedAs};
 
+use changes::Clump;
+use layout::Place;
 use reading::Sheet;
 use rules::Refusal;
 
@@ -35,40 +38,39 @@ fn put_clump(widths: &[u32], placement: &mut [u8], first: usize, end: usize, edg
 }
 
 // The clumps of a finished bench, from left to right.
-fn put_clumps(clumps: usize, counts: &[u16], edges: &[u32], widths: &[u32], placement: &mut [u8])
-    requires { (R : Row) × ((s : List ℕ) × Ready R s clumps counts.now edges.now widths.now placement.old) }
-    ensures { (R : Row) (s : List ℕ) → Ready R s clumps counts.now edges.now widths.now placement.old → placement.new ≡ site_bytes (positions R (bench_of R s)) }
+fn put_clumps(clumps: &[Clump], widths: &[u32], placement: &mut [u8])
+    requires { (R : Row) × ((s : List ℕ) × Ready R s (cells_of clumps.now) (edges_of clumps.now) widths.now placement.old) }
+    ensures { (R : Row) (s : List ℕ) → Ready R s (cells_of clumps.now) (edges_of clumps.now) widths.now placement.old → placement.new ≡ site_bytes (positions R (bench_of R s)) }
 {
     let mut first = 0;
-    for k in 0..clumps {
-        let end = first + usize::from(counts[k]);
-        put_clump(widths, placement, first, end, edges[k]);
+    for clump in clumps {
+        let end = first + usize::from(clump.cells);
+        put_clump(widths, placement, first, end, clump.edge);
         first = end;
     }
 }
 
-// The positions that a bench gives, for a row that was read, by what was kept of it. Three lists are lent to work in.
+// The positions that a bench gives, for a row that was read, or why there are none. Two lists are lent to work in.
 pub fn place(
     sheet: Sheet<'_>,
     bench: &[u8],
     placement: &mut [u8],
-    starts: &mut [u32],
-    counts: &mut [u16],
-    edges: &mut [u32],
+    places: &mut [Place],
+    clumps: &mut [Clump],
 ) -> Result<u64, Refusal>
-    requires bench_len { (length bench.now ≡ bench_size) × (length sheet.widths.now + 1 ≤ length starts.old) × (length sheet.widths.now ≤ length counts.old) × (length sheet.widths.now ≤ length edges.old) × (length placement.old ≡ 4 * length sheet.widths.now) }
+    requires bench_len { (length bench.now ≡ bench_size) × (length sheet.widths.now + 1 ≤ length places.old) × (length sheet.widths.now ≤ length clumps.old) × (length placement.old ≡ 4 * length sheet.widths.now) }
     requires holds { (R : Row) × Holds sheet.width sheet.widths.now sheet.nets.now R }
     ensures { (R : Row) → Holds sheet.width sheet.widths.now sheet.nets.now R → PlacedAs R bench.now placement.old placement.new result }
 {
     let cells = sheet.widths.len();
-    layout::lay_starts(sheet.widths, cells, starts);
-    let saved = benches::load(bench, sheet.width, cells, starts, counts, edges);
-    if !saved.formed {
+    let places = &mut places[..cells + 1];
+    layout::lay_starts(sheet.widths, places);
+    let Some(saved) = benches::load(bench, sheet.width, places, clumps) else {
         return Err(Refusal::WrongBench);
-    }
+    };
     if !is_finished(saved.held, saved.opened, cells) {
         return Err(Refusal::Unfinished);
     }
-    put_clumps(saved.clumps, counts, edges, sheet.widths, placement);
+    put_clumps(&clumps[..saved.clumps], sheet.widths, placement);
     Ok(measuring::netlength(sheet.nets, placement))
 }

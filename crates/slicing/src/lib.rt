@@ -2,23 +2,24 @@
 // so many steps are taken, and the bench that they leave is written. A bench that is not in form is left as it is.
 #![tactic(auto)]
 
-ghost use Rattle.std.specs.Prelude.{◌≡◌, true, false, cond, ◌-◌, ◌≤◌, length, get_or};
-ghost use Rattle.rules.specs.Sizes.{most_cells, bench_size};
+ghost use Rattle.std.specs.Prelude.{◌≡◌, ◌+◌, ◌*◌, ◌≤◌, cond, length, get_or, ◌-◌};
+ghost use Rattle.rules.specs.Sizes.{bench_size};
 ghost use Rattle.rules.specs.Row.{Row};
 ghost use Rattle.rules.specs.Steps.{Bench as Meant};
 ghost use Rattle.rules.specs.Bench.{bench_bytes};
+ghost use Rattle.changes.specs.Columns.{cells_of, edges_of};
 ghost use Rattle.reading.specs.Reads.{Holds};
-ghost use Rattle.engine.specs.Laid.{layout_of};
+ghost use Rattle.engine.specs.Laid.{seen};
 ghost use Rattle.engine.specs.Stands.{lists_of, Numbers};
 ghost use Rattle.slicing.specs.Sliced.{SlicedAs, Advanced};
 ghost use Rattle.slicing.specs.Begun.{begun, Begins, Lent, Saves};
 
 use benches::{Saved, load, store};
-use changes::Kept;
+use changes::{Clump, Kept};
 use engine::{Bench, resume};
-use layout::{lay_out, lay_starts};
+use layout::{Layout, Place, lay_out, lay_starts};
 use reading::Sheet;
-use rules::{Carried, Refusal, Steps};
+use rules::{Change, Refusal, Steps};
 
 // What a slice answers: how many steps it took and whether all is done.
 #[derive(Clone, Copy)]
@@ -29,118 +30,95 @@ pub struct Sliced {
 
 // The work so far, by the numbers that were saved: with a clump in hand, the last one is it, and its cells are the last that were opened. Nothing is
 // kept of its changes yet.
-fn begin(opened: usize, held: bool, clumps: usize, carried: Carried, cells: &[u16]) -> Bench
-    requires { (clumps ≤ length cells.now) × (cond held 1 0 ≤ clumps) × (cond held (get_or cells.now (clumps - 1) 0) 0 ≤ opened) }
-    ensures { result ≡ begun opened held clumps carried cells.now }
+fn begin(saved: Saved, clumps: &[Clump]) -> Bench
+    requires { (saved.clumps ≤ length clumps.now) × (cond saved.held 1 0 ≤ saved.clumps) × (cond saved.held (get_or (cells_of clumps.now) (saved.clumps - 1) 0) 0 ≤ saved.opened) }
+    ensures { result ≡ begun saved (cells_of clumps.now) }
 {
-    let hand = Kept {
-        size: 0,
-        sum: 0,
-        cap: 0,
+    let settled = saved.settled();
+    let cells = if saved.held {
+        usize::from(clumps[settled].cells)
+    } else {
+        0
     };
-    if !held {
-        return Bench {
-            opened: opened,
-            first: opened,
-            settled: clumps,
-            hand: hand,
-            carried: carried,
-        };
-    }
-    let last = clumps - 1;
     Bench {
-        opened: opened,
-        first: opened - usize::from(cells[last]),
-        settled: last,
-        hand: hand,
-        carried: carried,
+        opened: saved.opened,
+        first: saved.opened - cells,
+        settled,
+        hand: Kept {
+            size: 0,
+            sum: 0,
+            cap: 0,
+        },
+        carried: saved.carried,
     }
 }
 
 // The work as it was left, as bytes: the clump in hand, if there is one, goes after the settled ones, at edge 0.
-fn save(left: Bench, cells: &mut [u16], edges: &mut [u32], bench: &mut [u8])
-    requires { (length bench.old ≡ bench_size) × ((R : Row) × ((b : Meant) × (Numbers R left cells.old edges.old b × Saves R cells.old edges.old))) }
-    ensures { (R : Row) (b : Meant) → Numbers R left cells.old edges.old b → Saves R cells.old edges.old → bench.new ≡ bench_bytes b }
+fn save(left: Bench, clumps: &mut [Clump], bench: &mut [u8])
+    requires { (length bench.old ≡ bench_size) × ((R : Row) × ((b : Meant) × (Numbers R left (cells_of clumps.old) (edges_of clumps.old) b × Saves R clumps.old))) }
+    ensures { (R : Row) (b : Meant) → Numbers R left (cells_of clumps.old) (edges_of clumps.old) b → Saves R clumps.old → bench.new ≡ bench_bytes b }
 {
+    let held = left.first < left.opened;
     let settled = left.settled;
-    let carried = left.carried;
-    if left.first == left.opened {
-        store(bench, left.opened, false, settled, carried, cells, edges);
-        return;
+    if held {
+        clumps[settled].cells = (left.opened - left.first) as u16;
+        clumps[settled].edge = 0;
     }
-    let count = left.opened - left.first;
-    cells[settled] = count as u16;
-    edges[settled] = 0;
-    store(bench, left.opened, true, settled + 1, carried, cells, edges);
+    store(
+        bench,
+        left.opened,
+        held,
+        left.carried,
+        &clumps[..settled + usize::from(held)],
+    );
 }
 
 // From a bench that was loaded, with the row's changes laid out: steps are taken, and what they leave is written.
 fn advance(
     saved: Saved,
     budget: u32,
-    width: u32,
-    count: usize,
-    starts: &[u32],
-    bounds: &[u16],
-    needs: &[u32],
-    at: &[i32],
-    slope: &[i64],
-    cells: &mut [u16],
-    edges: &mut [u32],
-    sizes: &mut [u16],
-    sums: &mut [u32],
+    row: Layout<'_>,
+    clumps: &mut [Clump],
     keys: &mut [u32],
     bench: &mut [u8],
 ) -> Sliced
-    requires { (length bench.old ≡ bench_size) × ((R : Row) × Begins R bench.old saved width count (layout_of starts.now bounds.now needs.now at.now slope.now) (lists_of cells.old edges.old sizes.old sums.old keys.old)) }
-    ensures advanced { (R : Row) → Begins R bench.old saved width count (layout_of starts.now bounds.now needs.now at.now slope.now) (lists_of cells.old edges.old sizes.old sums.old keys.old) → Advanced R budget bench.old bench.new result }
-    ensures cells_len_unchanged { (length cells.new ≡ length cells.old) × (length edges.new ≡ length edges.old) }
+    requires { (length bench.old ≡ bench_size) × ((R : Row) × Begins R bench.old saved row.width (seen row) (lists_of clumps.old keys.old)) }
+    ensures { (R : Row) → Begins R bench.old saved row.width (seen row) (lists_of clumps.old keys.old) → Advanced R budget bench.old bench.new result }
 {
-    let carried = saved.carried;
-    let from = begin(saved.opened, saved.held, saved.clumps, carried, cells);
-    let ran = resume(
-        from, budget, width, count, starts, bounds, needs, at, slope, cells, edges, sizes, sums,
-        keys,
-    );
+    let from = begin(saved, clumps);
+    let ran = resume(from, budget, row, clumps, keys);
     let left = ran.bench;
-    save(left, cells, edges, bench);
-    let steps = ran.steps;
-    let finished = left.finished(count);
-    Sliced { steps, finished }
+    save(left, clumps, bench);
+    Sliced {
+        steps: ran.steps,
+        finished: left.finished(row.cells()),
+    }
 }
 
-// Of a row that was read, by what was kept of it in lent lists. The other lists are lent to work in: of `bounds` and `needs` every number is 0.
+// Of a row that was read. The other lists are lent to work in: of `places` every number is 0.
 pub fn slice(
     sheet: Sheet<'_>,
     bench: &mut [u8],
     budget: u32,
-    starts: &mut [u32],
-    bounds: &mut [u16],
-    slots: &mut [u16],
-    needs: &mut [u32],
-    at: &mut [i32],
-    slope: &mut [i64],
-    cells: &mut [u16],
-    edges: &mut [u32],
-    sizes: &mut [u16],
-    sums: &mut [u32],
+    places: &mut [Place],
+    changes: &mut [Change],
+    clumps: &mut [Clump],
     keys: &mut [u32],
 ) -> Result<Sliced, Refusal>
     requires bench_len { (length bench.old ≡ bench_size) × ((R : Row) × Holds sheet.width sheet.widths.now sheet.nets.now R) }
-    requires lent { Lent (length sheet.widths.now) (length sheet.nets.now) slots.old (layout_of starts.old bounds.old needs.old at.old slope.old) (lists_of cells.old edges.old sizes.old sums.old keys.old) }
+    requires lent { Lent (length sheet.widths.now) (length sheet.nets.now) places.old changes.old clumps.old keys.old }
     ensures { (R : Row) → Holds sheet.width sheet.widths.now sheet.nets.now R → SlicedAs R budget bench.old bench.new result }
 {
-    let count = sheet.widths.len();
-    lay_starts(sheet.widths, count, starts);
-    let saved = load(bench, sheet.width, count, starts, cells, edges);
-    if !saved.formed {
+    let places = &mut places[..sheet.widths.len() + 1];
+    lay_starts(sheet.widths, places);
+    let Some(saved) = load(bench, sheet.width, places, clumps) else {
         return Err(Refusal::WrongBench);
-    }
-    lay_out(
-        sheet.nets, count, starts, bounds, slots, needs, at, slope,
-    );
-    Ok(advance(
-        saved, budget, sheet.width, count, starts, bounds, needs, at, slope, cells, edges, sizes,
-        sums, keys, bench,
-    ))
+    };
+    lay_out(sheet.nets, places, changes);
+    let row = Layout {
+        width: sheet.width,
+        places,
+        changes,
+    };
+    Ok(advance(saved, budget, row, clumps, keys, bench))
 }
