@@ -117,13 +117,7 @@ fn edge_fits(settled: bool, edge: u32, after: bool, within: bool) -> bool
 }
 
 // The clumps, one after the other: in form where all fit and their cells add to those opened.
-fn parts_fit(
-    head: Saved,
-    bench: &[u8],
-    width: u32,
-    places: &[Place],
-    clumps: &mut [Clump],
-) -> bool
+fn parts_fit(head: Saved, bench: &[u8], width: u32, places: &[Place], clumps: &mut [Clump]) -> bool
     requires bench_len { length bench.now ≡ bench_size }
     requires clumps_le_most_cells { (head.clumps ≤ most_cells) × (cond head.held 1 0 ≤ head.clumps) }
     requires opened_le_most_cells { (head.opened ≤ most_cells) × (head.opened + 1 ≤ length places.now) × (head.opened ≤ length clumps.old) }

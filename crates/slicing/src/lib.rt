@@ -58,7 +58,7 @@ fn save(left: Bench, clumps: &mut [Clump], bench: &mut [u8])
     requires { (length bench.old ≡ bench_size) × ((R : Row) × ((b : Meant) × (Numbers R left (cells_of clumps.old) (edges_of clumps.old) b × Saves R clumps.old))) }
     ensures { (R : Row) (b : Meant) → Numbers R left (cells_of clumps.old) (edges_of clumps.old) b → Saves R clumps.old → bench.new ≡ bench_bytes b }
 {
-    let held = left.first < left.opened;
+    let held = left.first != left.opened;
     let settled = left.settled;
     if held {
         clumps[settled].cells = (left.opened - left.first) as u16;
