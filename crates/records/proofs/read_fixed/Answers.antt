@@ -1,6 +1,6 @@
 -- FP among the nets (document 01, "What the broker calls": the order of faults in a record).
 -- Mark (2) where no net is open, body short (1), the fields (4).
-use Rattle.std.proofs.Common.{◌≡◌, refl, ap, ◌∙◌, w32, Err}
+use Rattle.std.proofs.Common.{◌≡◌, refl, ap, ◌∙◌, w32}
 use Rattle.std.specs.Prelude.{not}
 use mir.Facts.{to_z-of_z}
 use borrow.Author.Tests.{eq-eqb, ne_eqb}

@@ -1,6 +1,6 @@
 -- MP among the nets (document 01, "What the broker calls": the order of faults in a record).
 -- Mark (2) where no net is open, body short (1), the fields (4).
-use Rattle.std.proofs.Common.{◌≡◌, refl, ap, ◌∙◌, arith, get_or, sym}
+use Rattle.std.proofs.Common.{◌≡◌, refl, ap, ◌∙◌, arith, get_or}
 use Rattle.std.specs.Prelude.{not}
 use borrow.Author.Tests.{eq-eqb, ne_eqb}
 use Rattle.numbers.specs.Bytes.{u16_at, u32_at}
