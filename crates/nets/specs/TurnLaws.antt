@@ -1,18 +1,22 @@
 -- One pin more, in what is kept of a net as in its list: the draft of the longer list is what the turn makes of the draft.
 -- And what a draft becomes when it is closed. Which offsets count comes from Counted alone.
-use Rattle.std.specs.Prelude.{ℕ, ◌≤◌, ◌<◌, ◌≡◌, refl, List, [], ◌∷◌, ◌++◌, Bool, true, false, cond, ℤ, pos, leb, Some, unwrap_or}
+use Rattle.std.specs.Prelude.{ℕ, ◌≡◌, refl, List, [], ◌∷◌, ◌++◌, Bool, true, false, cond, ℤ, pos, leb, Some, None, unwrap_or}
 use Rattle.std.proofs.Common.{ap, ◌∙◌, arith, leb-true, leb-false, ne_eqb}
 use Rattle.std.proofs.Math.Nat.{max-zero}
 use Rattle.rules.specs.Row.{Pin, fixed, on, Net as Listed, replaced, counted}
 use Rattle.rules.specs.Records.{has_pin}
 use Rattle.rules.specs.Changes.{cells_of, offsets_on, fixed_of, least, greatest, left_cell, right_cell, left_offset, right_offset, left_fixed, right_fixed}
 use Rattle.nets.specs.declared.Ends.{Ends}
-use Rattle.nets.specs.declared.Fixed.{Fixed}
 use Rattle.nets.specs.declared.Draft.{Draft}
 use Rattle.nets.specs.Summary.{summary, ends_of, fixed_ends, drafted, no_ends, closed, with_pin_of}
 use Rattle.nets.specs.Turns.{ends_more, fixed_turn, pin_turn}
 use Rattle.nets.specs.Counted.{counted_other, counted_same}
 use Rattle.nets.specs.Lists.{fixed_ends_more, fixed_of_fixed, fixed_of_on, cells_of_fixed, cells_of_on, has_pin_fixed, has_pin_on_lem, no_cells, left_cell_more, right_cell_more}
+
+-- of no pins nothing is kept
+pub drafted_none : (w : ℕ) → drafted (record { weight = w; pins = [] }) ≡ record { weight = record { 0 = w }; ends = None; fixed = None }
+unfolding drafted ends_of fixed_ends has_pin fixed_of
+drafted_none w = refl
 
 pub fixed_turn_lem : (t : Listed) (x : ℤ) → fixed_turn (drafted t) x ≡ drafted (with_pin_of t (fixed x))
 unfolding drafted ends_of with_pin_of left_cell right_cell left_offset right_offset
