@@ -68,7 +68,7 @@ unlike e = let z : ◌≡◌ {A = ℕ} 0 1 = cc in omega arith
 
 module _ {A : Type 0} (place : ℕ) where
   pub placed_ok : (read : Result A Refusal) (x : A) → placed place read ≡ Ok x → read ≡ Ok x
-  placed_ok (Ok y) x e = e
+  placed_ok (Ok y) x e = cc
   placed_ok (Err q) x e = cc
 
   pub placed_err : (read : Result A Refusal) (f : Refused) → placed place read ≡ Err f → (read ≡ Err f.refusal) × (f.place ≡ place)
