@@ -77,6 +77,7 @@ impl Net {
     }
 
     // The net's span with L at p and R at q.
+    #[tactic(auto, unfolding(crate::specs::Span::span_at))]
     pub fn span(self, p: u32, q: u32) -> u64
         requires { Near self p q }
         ensures { result ≡ span_at self p q }
@@ -116,6 +117,7 @@ impl Fixed {
 
 impl Draft {
     // A net without pins.
+    #[tactic(auto, using(crate::specs::TurnLaws::drafted_none))]
     pub fn new(weight: u32) -> Self
         ensures { result ≡ drafted (record { weight = weight; pins = [] }) }
     {
