@@ -1,18 +1,20 @@
 -- The parts of a row (document 01, "The row as bytes", its order): RW comes first, CE while a width is missing, then the nets and EN.
 -- Which marks may stand in a part, by the numbers of the code's struct, and the order of faults in one record, test by test.
-use Rattle.std.specs.Prelude.{ℕ, ◌≤◌, ◌<◌, ◌≡◌, refl, List, [], ◌∷◌, Bool, true, false, ◌&&◌, not, ltb, leb, eqb, length}
-use Rattle.std.proofs.Common.{ap, arith}
+use Rattle.std.specs.Prelude.{ℕ, ◌≤◌, ◌<◌, ◌≡◌, refl, List, [], ◌∷◌, Bool, true, false, cond, ◌&&◌, not, ltb, leb, eqb, length, Option, Some, None, Result, Ok, Err, ok_or}
+use Rattle.std.proofs.Common.{ap, arith, leb-true}
 use borrow.Author.Tests.{eq-eqb, ne_eqb, lt-ltb, le-ltb, le-leb, lt-leb, ltb-true}
 use Rattle.numbers.specs.Bytes.{u16_at}
 use Rattle.rules.specs.Row.{Net}
-use Rattle.rules.specs.Records.{Reading, mark_of, size_of, net_open, in_nets, allowed, lonely, closes, fields, marked, record_at}
+use Rattle.rules.specs.Records.{Reading, with_mark, mark_of, size_of, net_open, in_nets, allowed, lonely, closes, fields, marked, record_at}
 use Rattle.rules.specs.Reading.{start}
+use Rattle.rules.specs.declared.Refusal.{Refusal}
 use Rattle.rules.specs.declared.Refusal.TheVariants.{Cut, WrongMark, Lonely}
 use Rattle.rules.specs.declared.Mark.{Mark}
-use Rattle.rules.specs.declared.Mark.TheVariants.{RowMark, CellMark, NetMark, FixedMark, PinMark, EndMark, NoMark}
-use Rattle.rules.specs.declared.Record.TheVariants.{Refused}
+use Rattle.rules.specs.declared.Mark.TheVariants.{RowMark, CellMark, NetMark, FixedMark, PinMark, EndMark}
+use Rattle.rules.specs.declared.Record.{Record}
 use Rattle.records.specs.declared.Progress.{Progress}
 use Rattle.records.specs.Shows.{Shows}
+use Rattle.records.specs.Recorded.{mark_at, whole}
 
 -- a width is missing, and so no net is read
 pub record AtCells (c : Reading) : Type 0 where
@@ -27,33 +29,55 @@ pub record AtNets (c : Reading) : Type 0 where
 
 -- ---- the order of faults in a record
 
+body_cut : (b : Bool) (u : Unit {0}) (r : Result Record Refusal) (q : Refusal) → cond b (Ok u) (Err Cut) ≡ Err q → Err q ≡ cond b r (Err Cut)
+body_cut true u r q e = cc
+body_cut false u r q e = cc
+
+body_whole : (m : Mark) (s : List ℕ) (b : Bool) (u : Unit {0}) → leb (size_of m) (length s) ≡ b → cond b (Ok u) (Err Cut) ≡ Ok u → size_of m ≤ length s
+body_whole m s true u l e = leb-true (size_of m) (length s) l
+body_whole m s false u l e = cc
+
+-- a body that is there has all its bytes
+pub body_there : (m : Mark) (s : List ℕ) (u : Unit {0}) → whole m s ≡ Ok u → size_of m ≤ length s
+body_there m s u e = body_whole m s (leb (size_of m) (length s)) u refl e
+
 module _ (c : Reading) (s : List ℕ) where
-  pub no_mark : length s < 2 → Refused Cut ≡ record_at c s
+  mark_refused : (b : Bool) (o : Option Mark) (q : Refusal) → cond b (ok_or o WrongMark) (Err Cut) ≡ Err q → Err q ≡ cond b (with_mark c o s) (Err Cut)
+  mark_refused true (Some m) q e = cc
+  mark_refused true None q e = cc
+  mark_refused false o q e = cc
+
+  mark_read : (b : Bool) (o : Option Mark) (m : Mark) → cond b (ok_or o WrongMark) (Err Cut) ≡ Ok m → marked c m s ≡ cond b (with_mark c o s) (Err Cut)
+  mark_read true (Some k) m e = cc
+  mark_read true None m e = cc
+  mark_read false o m e = cc
+
+  pub no_mark : (q : Refusal) → mark_at s ≡ Err q → Err q ≡ record_at c s
   unfolding record_at
-  no_mark h = rw (lt-leb _ _ h)
+  no_mark q e = mark_refused (leb 2 (length s)) (mark_of (u16_at s 0)) q e
 
   module _ (m : Mark) where
-    pub by_mark : 2 ≤ length s → m ≡ mark_of (u16_at s 0) → marked c m s ≡ record_at c s
+    pub by_mark : mark_at s ≡ Ok m → marked c m s ≡ record_at c s
     unfolding record_at
-    by_mark h e = rw (le-leb _ _ h, ← e)
+    by_mark e = mark_read (leb 2 (length s)) (mark_of (u16_at s 0)) m e
 
-    pub wrong_mark : allowed c m ≡ false → Refused WrongMark ≡ marked c m s
+    pub wrong_mark : allowed c m ≡ false → Err WrongMark ≡ marked c m s
     unfolding marked
     wrong_mark a = rw a
 
     module _ (a : allowed c m ≡ true) where
-      pub left_lonely : (closes m && lonely c.nets) ≡ true → Refused Lonely ≡ marked c m s
+      pub left_lonely : (closes m && lonely c.nets) ≡ true → Err Lonely ≡ marked c m s
       unfolding marked
       left_lonely l = rw (a, l)
 
       module _ (l : (closes m && lonely c.nets) ≡ false) where
-        pub cut_short : length s < size_of m → Refused Cut ≡ marked c m s
+        pub cut_short : (q : Refusal) → whole m s ≡ Err q → Err q ≡ marked c m s
         unfolding marked
-        cut_short h = rw (a, l, lt-leb _ _ h)
+        cut_short q h = rw (a, l) (body_cut (leb (size_of m) (length s)) tt (fields c m s) q h)
 
-        pub whole : size_of m ≤ length s → fields c m s ≡ marked c m s
+        pub by_fields : size_of m ≤ length s → fields c m s ≡ marked c m s
         unfolding marked
-        whole h = rw (a, l, le-leb _ _ h)
+        by_fields h = rw (a, l, le-leb _ _ h)
 
 -- the width of a cell counts only where there is such a cell
 pub width_there : (i n o a b : ℕ) → (i < n → a ≡ b) → (ltb i n && leb o a) ≡ (ltb i n && leb o b)
@@ -68,10 +92,6 @@ width_there i n o a b same = go (ltb i n) refl
 pub row_next : allowed start RowMark ≡ true
 unfolding allowed start
 row_next = refl
-
-pub never_no_mark : (c : Reading) → allowed c NoMark ≡ false
-unfolding allowed
-never_no_mark c = refl
 
 pub cell_next : (c : Reading) → AtCells c → allowed c CellMark ≡ true
 unfolding allowed
