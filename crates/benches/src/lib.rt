@@ -208,7 +208,7 @@ fn store_head(bench: &mut [u8], opened: usize, held: bool, clumps: usize, carrie
     requires { (length bench.old ≡ bench_size) × ((opened ≤ most_cells) × (clumps ≤ most_cells)) }
     ensures { bench.new ≡ head_bytes opened (cond held 1 0) clumps carried.0 ++ replicate (part_size * most_cells) 0 }
 {
-    numbers::clear(bench);
+    bench.fill(0);
     bench[0] = b'B';
     bench[1] = b'N';
     numbers::put_u16(bench, 2, opened as u16);
