@@ -1,6 +1,6 @@
 -- From a row that was read to what measuring asks: what is kept of its nets has their netlength, and a legal placement of its cells
 -- can be measured.
-use Rattle.std.specs.Prelude.{ℕ, ◌*◌, ◌≡◌, true, List, map, length}
+use Rattle.std.specs.Prelude.{ℕ, ◌*◌, ◌≡◌, true, List, length}
 use Rattle.std.proofs.Common.{arith, sym}
 use Rattle.std.proofs.lemmas.List.{length-map}
 use Rattle.rules.specs.Row.{Row}
