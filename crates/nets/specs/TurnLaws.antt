@@ -94,15 +94,15 @@ no_offsets : (ps : List Pin) → has_pin ps ≡ false → (i : ℕ) → offsets_
 unfolding has_pin counted replaced offsets_on
 no_offsets [] h i = refl
 no_offsets (fixed x ∷ ps) h i = no_offsets ps h i
-no_offsets (on k o ∷ ps) h i = let z : ◌≡◌ {A = ℕ} 0 1 = cc in absurd (omega arith)
+no_offsets (on k o ∷ ps) h i = cc
 
--- L and R and the offsets on them
+-- of a net without a pin on a cell, L and R are cell 0
 closed_ends : (t : Listed) (p : Bool) → has_pin t.pins ≡ p → unwrap_or (ends_of t) no_ends ≡ ends t
 unfolding ends_of left_cell right_cell left_offset right_offset least greatest
 closed_ends t true h = rw h
 closed_ends t false h = rw (h, no_cells t.pins h, no_offsets t.pins h 0)
 
--- fl and fr
+-- and of one without fixed pins, fl is W and fr is 0
 closed_fixed : (W : ℕ) (xs : List ℤ) → unwrap_or (fixed_ends xs) (record { left = pos W; right = pos 0 }) ≡ record { left = left_fixed W xs; right = right_fixed xs }
 unfolding fixed_ends left_fixed right_fixed
 closed_fixed W [] = refl

@@ -7,4 +7,4 @@ use Rattle.nets.proofs.Draft.with_fixed.Goals as goal
 pub returns : goal.returns
 returns c t e =
     fixed_turned t c.args.self c.args.x
-    (elim c.match-self.branch [ in-Some w ↦ rw (w.self-is, w.with.ensures, w.in-Some.is, to_z-of_z c.ranges.x) | in-None w ↦ rw (w.self-is, w.in-None.is, to_z-of_z c.ranges.x) ]) e
+    (let x = to_z-of_z c.ranges.x in elim c.match-self.branch [ in-Some w ↦ cc | in-None w ↦ cc ]) e

@@ -6,4 +6,4 @@ use Rattle.nets.proofs.Draft.with_pin.Goals as goal
 pub returns : goal.returns
 returns c t e =
     pin_turned t c.args.self c.args.cell c.args.offset
-    (elim c.match-self.branch [ in-Some w ↦ rw (w.self-is, w.with.ensures, w.in-Some.is) | in-None w ↦ rw (w.self-is, w.in-None.is) ]) e
+    (elim c.match-self.branch [ in-Some w ↦ cc | in-None w ↦ cc ]) e
