@@ -156,11 +156,12 @@ module _ (s ws : List ℕ) (sum : ℕ) (p : Progress) (t : List ℕ) (d : Option
         says_refused s ws sum p t c i.underway f (sym stands_next ∙ h.0, h.1)
 
   -- there is room for every net that is opened
-  pub slot : (p.width ≤ widest) × ((p.opened ≤ length ns) × IfSome d (λ x. 1 ≤ p.opened))
+  pub slot : (p.width ≤ widest) × (p.opened ≤ length ns) × IfSome d (λ x. 1 ≤ p.opened)
   slot =
       let u = i.underway in (
         omega (arith, u.shows.width, u.good.wide),
-        (omega (arith, u.shows.opened, u.good.within.opened, i.slots), rw u.shows.opened (drafting_open d c.nets i.drafting)),
+        omega (arith, u.shows.opened, u.good.within.opened, i.slots),
+        rw u.shows.opened (drafting_open d c.nets i.drafting),
       )
 
   pub all_stored : (r : Record) → closes_net r ≡ true → Stored c.head.width (closed_by r p d ns) c.nets

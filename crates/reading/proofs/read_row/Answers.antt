@@ -14,8 +14,15 @@ use Rattle.reading.proofs.read_row.Goals as goal
 turn : (c : In_ok-r) → record_at c.loop-r.invariant.0 c.loop-r.t.now ≡ Ok c.in_ok-r.r
 turn c = net_read _ _ _ _ _ _ _ _ c.loop-r.invariant.1 _ c.read_in_nets.ensures c.in_ok-r.r c.in_ok-r.ensures
 
+-- it is EN
+closing : (c : In-En) → record_at c.loop-r.invariant.0 c.loop-r.t.now ≡ Ok c.in_ok-r.r
+    → Closing c.args.s.now c.in_ok-cells.cells.sum c.loop-r.p c.loop-r.t.now c.loop-r.invariant.0
+closing c is = record { widths = _; underway = c.loop-r.invariant.1.underway; is = rw c.in-En.is at is }
+
 pub returns-in_err-cells : goal.returns-in_err-cells
-returns-in_err-cells c = let e = c.in_err-cells.ensures in ?
+returns-in_err-cells c =
+    let e = err_from_is_err_and c.from_residual.result c.from_residual.ensures.1 in
+    rw (e.1, e.2) (reads_refused _ _ c.in_err-cells.ensures.0)
 
 pub loop-r-init : goal.loop-r-init
 loop-r-init c =
@@ -33,13 +40,20 @@ pub close-requires : goal.close-requires
 close-requires c = slot _ _ _ _ _ _ _ _ c.loop-r.invariant.1
 
 pub ended-requires : goal.ended-requires
-ended-requires c = let x = (goal.at.ended-requires c).In_ok-r in ?
+ended-requires c = (_, (_, closing c (turn (goal.at.ended-requires c).In_ok-r)))
 
 pub returns-in_err-ended : goal.returns-in_err-ended
-returns-in_err-ended c = ?
+returns-in_err-ended c =
+    let k = goal.at.returns-in_err-ended c in
+    let e = err_from_is_err_and c.from_residual-in_err-ended.result c.from_residual-in_err-ended.ensures.1 in
+    rw (e.1, e.2) (reads_refused _ _ (c.in_err-ended.ensures _ _ (closing k.In-En (turn k.In_ok-r))))
 
 pub returns-in-En : goal.returns-in-En
-returns-in-En c = ?
+returns-in-En c =
+    let k = goal.at.returns-in-En c in
+    let is = turn k.In_ok-r in
+    reads_taken _ _ _ _ _ _ _ _ c.loop-r.invariant.1 (rw c.in-En.is at is) (c.in_ok-ended.ensures _ _ (closing k.In-En is))
+    _ refl refl (rw (c.close.ensures, c.in-En.is) refl)
 
 pub after-p-requires : goal.after-p-requires
 after-p-requires c = let u = c.loop-r.invariant.1.underway in within_small u.shows u.good.within
@@ -52,4 +66,11 @@ loop-r-smaller c =
     rw c.rest-t.ensures (shorter c.loop-r.invariant.0 c.loop-r.t.now c.in_ok-r.r (turn (goal.at.loop-r-smaller c).In_ok-r))
 
 pub loop-r-preserved : goal.loop-r-preserved
-loop-r-preserved c = let h = c.in_default in ?
+loop-r-preserved c =
+    let r = c.in_ok-r.r in
+    let i = c.loop-r.invariant in
+    let is = turn (goal.at.loop-r-preserved c).In_ok-r in (
+      after i.0 r,
+      rw (c.after-p.ensures, c.rest-t.ensures, c.close.ensures)
+          (more_nets _ _ _ _ _ _ _ _ i.1 r is (going r c.in_default.not-En) _ (c.drafted_by-draft.ensures i.0 i.1.drafting)),
+    )
