@@ -27,7 +27,7 @@ pub struct Net {
 }
 
 // The leftmost and rightmost cells of some pins, and the offsets on them.
-#[derive(Clone, Copy)]
+#[derive(Clone, Copy, Default)]
 pub struct Ends {
     pub left: u16,
     pub right: u16,
@@ -160,12 +160,7 @@ impl Draft {
         requires { width ≤ widest }
         ensures { result ≡ closed width self }
     {
-        let ends = self.ends.unwrap_or(Ends {
-            left: 0,
-            right: 0,
-            onleft: 0,
-            onright: 0,
-        });
+        let ends = self.ends.unwrap_or_default();
         let fixed = self.fixed.unwrap_or(Fixed {
             left: width as i32,
             right: 0,
