@@ -2,9 +2,9 @@
 use Rattle.std.specs.Prelude.{ℕ, suc, ◌+◌, ◌-◌, ◌≤◌, ◌<◌, min, ◌≡◌, List, [], ◌∷◌, ◌++◌, map, reverse, Bool, true, false, length, take, drop, get_or, set, Option, Some, None, IfSome, Ok}
 use Rattle.std.proofs.Math.Path.{refl}
 use Rattle.std.proofs.Common.{sym, ap, ◌∙◌, arith}
-use Rattle.std.proofs.Math.ListN.{length-set, get_or-take}
+use Rattle.std.proofs.Math.ListN.{length-set}
 use Rattle.std.proofs.Math.Seq.{take-suc-set}
-use Rattle.std.proofs.lemmas.List.{ext_get_or, length-take-le}
+use Rattle.std.proofs.lemmas.List.{ext_get_or, get_or-take, length-take-le}
 use mathlib.Core.List.{map-append, reverse-cons}
 use Rattle.numbers.specs.Bytes.{u16_at}
 use Rattle.rules.specs.Sizes.{widest, most_nets}
@@ -106,7 +106,7 @@ stored_open W ns t ts h l =
 -- a record that closes a net leaves all nets stored
 closed_stored : (p : Progress) (r : Record) (d : Option Draft) (ns : List Net) (ts : List Listed) → closes_net r ≡ true → p.opened ≡ length ts
     → length ts ≤ length ns → Drafting d ts → Stored p.width ns (behind ts) → Stored p.width (closed_by r p d ns) ts
-closed_stored p r d ns [] closing long few draft h = rw draft refl
+closed_stored p r d ns [] closing long few draft h = refl
 closed_stored p r d ns (t ∷ ts) closing long few draft h =
     let at : p.opened - 1 ≡ length ts = omega arith in
     rw (draft, closing, at) (stored_open p.width ns t ts h (omega arith))

@@ -13,7 +13,7 @@ use Rattle.rules.specs.Sizes.{widest, most_cells, most_nets, heaviest, most_pins
 use Rattle.rules.specs.Row.{Net}
 use Rattle.rules.specs.Records.{Reading, mark_of, size_of, net_open, in_nets, allowed, lonely, closes, ranged, fields, marked, with_mark, record_at, takes}
 use Rattle.rules.specs.declared.Refusal.{Refusal}
-use Rattle.rules.specs.declared.Refusal.TheVariants.{Cut, WrongMark, Range, Lonely}
+use Rattle.rules.specs.declared.Refusal.TheVariants.{Cut, WrongMark, Lonely}
 use Rattle.rules.specs.declared.Mark.{Mark}
 use Rattle.rules.specs.declared.Mark.TheVariants.{RowMark, CellMark, NetMark, FixedMark, PinMark, EndMark}
 use Rattle.rules.specs.declared.Record.{Record}
