@@ -1,18 +1,22 @@
 -- Laws of the calls' definitions, way by way: what each answers where the row is refused, a buffer has another length, or all is well.
-use Rattle.std.specs.Prelude.{ℕ, ◌*◌, ◌≡◌, true, false, List}
+use Rattle.std.specs.Prelude.{ℕ, ◌*◌, ◌≡◌, true, false, List, Ok, Err}
 use Rattle.std.proofs.Math.Path.{refl}
-use Rattle.std.proofs.Common.{ap, sym}
+use Rattle.std.proofs.Common.{ap, sym, ◌∙◌}
 use Rattle.std.proofs.Math.ListN.{length}
 use borrow.Author.Tests.{eq-eqb, ne_eqb}
 use Rattle.rules.specs.Refusals.{refusal}
 use Rattle.rules.specs.Row.{Row}
-use Rattle.rules.specs.Reading.{taken, refused, read_row}
+use Rattle.rules.specs.Reading.{taken, read_row}
 use Rattle.rules.specs.Length.{overlap, netlength}
 use Rattle.rules.specs.Sizes.{bench_size}
 use Rattle.rules.specs.Bench.{bench_of, in_form}
 use Rattle.rules.specs.Calls.{Outcome, refuse, check_call, measure_call, measured, sites_from, slice_call, sliced, placement_call}
-use Rattle.rules.specs.declared.Refusal.{Refusal}
+use Rattle.rules.specs.declared.Refused.{Refused}
 use Rattle.rules.specs.declared.Refusal.TheVariants.{Room, WrongBench, Overlap}
+use Rattle.reading.specs.declared.Sheet.{Sheet}
+use Rattle.reading.specs.Reads.{Holds, Reads}
+use Rattle.reading.specs.ReadsLaws.{reads_ok, reads_err}
+use Rattle.lugsheet.specs.Answers.{answered}
 
 -- answer and buffer by the whole outcome
 pub told_by : {answer : ℕ} {buffer : List ℕ} {o : Outcome} → o ≡ record { answer = answer; buffer = buffer } → (answer ≡ o.answer) × (buffer ≡ o.buffer)
@@ -20,20 +24,19 @@ told_by e = (sym (ap (λ (o : Outcome). o.answer) e), sym (ap (λ (o : Outcome).
 
 -- ---- check
 
-pub check_refused : (row : List ℕ) (q : Refusal) (place : ℕ) → read_row row ≡ refused q place → (check_call row).answer ≡ refusal q place
+pub check_err : (row : List ℕ) (f : Refused) → Reads (read_row row) (Err f) → answered (Err f) ≡ (check_call row).answer
 unfolding check_call
-check_refused row q place e = rw e refl
+check_err row f h = rw (reads_err (read_row row) f h) refl
 
-pub check_taken : (row : List ℕ) (R : Row) → read_row row ≡ taken R → (check_call row).answer ≡ length R.widths
+pub check_ok : (row : List ℕ) (h : Sheet) → Reads (read_row row) (Ok h) → length h.widths.now ≡ (check_call row).answer
 unfolding check_call
-check_taken row R e = rw e refl
+check_ok row h r = let t = reads_ok (read_row row) h r in rw t.1.0 (ap length t.1.1.widths_are)
 
 -- ---- measure
 
-pub measure_refused : (row placement : List ℕ) (q : Refusal) (place : ℕ) → read_row row ≡ refused q place
-    → (measure_call row placement).answer ≡ refusal q place
+pub measure_err : (row placement : List ℕ) (f : Refused) → Reads (read_row row) (Err f) → answered (Err f) ≡ (measure_call row placement).answer
 unfolding measure_call
-measure_refused row placement q place e = rw e refl
+measure_err row placement f h = rw (reads_err (read_row row) f h) refl
 
 module _ (row placement : List ℕ) (R : Row) (e : read_row row ≡ taken R) where
   pub measure_room : (length placement ≡ 4 * length R.widths → ⊥) → (measure_call row placement).answer ≡ refusal Room 0
@@ -65,10 +68,10 @@ module _ (row placement : List ℕ) (R : Row) (e : read_row row ≡ taken R) whe
 
 -- ---- slice
 
-pub slice_refused : (row bench : List ℕ) (budget : ℕ) (q : Refusal) (place : ℕ) → read_row row ≡ refused q place
-    → slice_call row bench budget ≡ refuse bench q place
+pub slice_err : (row bench : List ℕ) (budget : ℕ) (f : Refused) → Reads (read_row row) (Err f)
+    → slice_call row bench budget ≡ refuse bench f.refusal f.place
 unfolding slice_call
-slice_refused row bench budget q place e = rw e refl
+slice_err row bench budget f h = rw (reads_err (read_row row) f h) refl
 
 module _ (row bench : List ℕ) (budget : ℕ) (R : Row) (e : read_row row ≡ taken R) where
   pub slice_room : (length bench ≡ bench_size → ⊥) → slice_call row bench budget ≡ refuse bench Room 0
@@ -86,10 +89,10 @@ module _ (row bench : List ℕ) (budget : ℕ) (R : Row) (e : read_row row ≡ t
 
 -- ---- placement: the ways that end before placing
 
-pub placement_refused : (row bench placement : List ℕ) (q : Refusal) (place : ℕ) → read_row row ≡ refused q place
-    → placement_call row bench placement ≡ refuse placement q place
+pub placement_err : (row bench placement : List ℕ) (f : Refused) → Reads (read_row row) (Err f)
+    → placement_call row bench placement ≡ refuse placement f.refusal f.place
 unfolding placement_call
-placement_refused row bench placement q place e = rw e refl
+placement_err row bench placement f h = rw (reads_err (read_row row) f h) refl
 
 module _ (row bench placement : List ℕ) (R : Row) (e : read_row row ≡ taken R) where
   pub placement_bench_room : (length bench ≡ bench_size → ⊥) → placement_call row bench placement ≡ refuse placement Room 0

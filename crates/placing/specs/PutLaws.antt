@@ -15,12 +15,13 @@ use Rattle.rules.specs.Calls.{packed, positions_in, positions, site_bytes}
 use Rattle.slopes.specs.Forgotten.{cells_in}
 use Rattle.slopes.specs.Frame.{packed_suc}
 use Rattle.benches.specs.BothLaws.{clash}
-use Rattle.benches.specs.FormLaws.{Formed, formed, by_hand, bench_with, bench_without}
+use Rattle.benches.specs.FormLaws.{Formed, formed, clumps_least, by_hand, bench_with, bench_without}
 use Rattle.benches.specs.FitsLaws.{cells_rise}
 use Rattle.benches.specs.ApartLaws.{apart_stand}
 use Rattle.benches.specs.MadeLaws.{clump_cells, clump_edge, clump_width}
 use Rattle.benches.specs.PositionLaws.{total_part, packed_length, positions_more}
 use Rattle.benches.specs.StoreLaws.{put32}
+use Rattle.placing.specs.Puts.{Ready}
 use Rattle.placing.specs.Sites.{over, over_more, over_over, over_all}
 
 -- ---- cells side by side
@@ -182,3 +183,11 @@ module _ (R : Row) (s : List ℕ) (form : in_form R s ≡ true) (ends : finished
   put_all before room =
       over_all before (positions_to R s (saved_clumps s)) (omega (arith, positions_count (saved_clumps s) (omega arith), told.add_up, all_opened))
       ∙ ap site_bytes positions_all
+
+-- each clump has a cell, so that both lists have a place for it
+pub clump_listed : {R : Row} {s : List ℕ} {clumps : ℕ} {counts edges ws placement : List ℕ} {k : ℕ}
+    → Ready R s clumps counts edges ws placement → k < clumps → (k < length counts) × (k < length edges)
+clump_listed {R} {s} {k = k} r h =
+    let f = formed R s r.form in
+    let within : k < length R.widths = omega (arith, r.clumps_are, clumps_least f, f.within) in
+    (omega (arith, r.counts_long), omega (arith, r.edges_long))

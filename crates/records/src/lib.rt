@@ -241,10 +241,11 @@ fn read_end(p: Progress) -> Result<Record, Refusal>
     if p.opened != p.nets {
         return Err(Refusal::WrongMark);
     }
-    if !p.pinned {
-        return Err(Refusal::Lonely);
+    if p.pinned {
+        Ok(Record::En)
+    } else {
+        Err(Refusal::Lonely)
     }
-    Ok(Record::En)
 }
 
 // A record once all widths are read: of a net, or EN.

@@ -1,5 +1,5 @@
 -- `put_clumps`, the loop: after k clumps the positions of their cells stand in the placement, and `first` is the cell after them.
-use Rattle.std.proofs.Common.{◌≡◌, List, ℕ, ◌-◌, ◌≤◌, length}
+use Rattle.std.proofs.Common.{◌≡◌, List, ℕ}
 use Rattle.rules.specs.Row.{Row}
 use Rattle.rules.specs.Bench.{cells_before}
 use Rattle.placing.specs.Sites.{over}
@@ -9,9 +9,5 @@ use Rattle.placing.proofs.put_clumps.Given as goal
 
 abbrev pub invariant-loop-k : goal.invariant-loop-k
 invariant-loop-k l =
-    (l.k ≤ l.clumps) × (length l.placement ≡ length l.initial.placement)
-    × ((R : Row) (s : List ℕ) → Ready R s l.clumps l.counts l.edges l.widths l.initial.placement
-    → (l.first ≡ cells_before s l.k) × (l.placement ≡ over l.initial.placement 0 (positions_to R s l.k)))
-
-abbrev pub decreases-loop-k : goal.decreases-loop-k
-decreases-loop-k l = l.clumps - l.k
+    (R : Row) (s : List ℕ) → Ready R s l.clumps l.counts l.edges l.widths l.initial.placement
+    → (l.first ≡ cells_before s l.k) × (l.placement ≡ over l.initial.placement 0 (positions_to R s l.k))

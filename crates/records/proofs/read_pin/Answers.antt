@@ -6,24 +6,26 @@ use borrow.Author.Tests.{eq-eqb, ne_eqb}
 use Rattle.numbers.specs.Bytes.{u16_at, u32_at}
 use Rattle.rules.specs.Records.{fields}
 use Rattle.rules.specs.declared.Mark.TheVariants.{PinMark}
-use Rattle.records.specs.Parts.{wrong_mark, cut_short, whole, pin_next, width_there}
+use Rattle.records.specs.Parts.{wrong_mark, cut_short, by_fields, pin_next, width_there}
+use Rattle.records.proofs.Exits.{same_refusal}
 use Rattle.records.proofs.read_pin.Goals as goal
 
 pub returns-then-p-eq0 : goal.returns-then-p-eq0
-returns-then-p-eq0 c = λ r h a. wrong_mark r c.args.s.now PinMark (pin_next h ∙ ap not (eq-eqb _ _ c.if-p-eq0.true))
+returns-then-p-eq0 c = λ r h a n. wrong_mark r c.args.s.now PinMark (pin_next h ∙ ap not (eq-eqb _ _ c.if-p-eq0.true))
 
-pub returns-then-s-size_of : goal.returns-then-s-size_of
-returns-then-s-size_of c = λ r h a.
-    cut_short r c.args.s.now PinMark (pin_next h ∙ ap not (ne_eqb _ _ c.if-p-eq0.false)) refl (omega (arith, c.size_of.ensures))
+pub returns-in_err-whole : goal.returns-in_err-whole
+returns-in_err-whole c = λ r h a n.
+    rw (same_refusal _ _ c.from_residual.ensures.1)
+    (cut_short r c.args.s.now PinMark (pin_next h ∙ ap not (ne_eqb _ _ c.if-p-eq0.false)) refl _ c.in_err-whole.ensures)
 
 pub returns : goal.returns
 unfolding fields
-returns c = λ r h a.
+returns c = λ r h a n.
     let s = c.args.s.now in
     let ws = c.args.widths.now in
     let i = u16_at s 2 in
     let o = u32_at s 4 in
     let there = width_there i r.head.cells o (get_or ws i 0) (get_or r.widths i 0) (λ l. h.widths i (omega (arith, a.all_cells))) in
     let in-range : c.pin_of.result ≡ fields r PinMark s =
-    rw (← there, ← h.pins, ← h.cells, ← c.u16_at.ensures, ← c.u32_at.ensures) c.pin_of.ensures in
-    in-range ∙ whole r s PinMark (pin_next h ∙ ap not (ne_eqb _ _ c.if-p-eq0.false)) refl (omega (arith, c.size_of.ensures))
+    rw (← there, ← h.pins, ← h.cells, ← n, ← c.u16_at.ensures, ← c.u32_at.ensures) c.pin_of.ensures in
+    in-range ∙ by_fields r s PinMark (pin_next h ∙ ap not (ne_eqb _ _ c.if-p-eq0.false)) refl _ c.in_ok-whole.ensures
