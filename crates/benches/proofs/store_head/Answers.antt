@@ -11,5 +11,5 @@ returns c =
     let zeros : c.fill.new.self ≡ replicate bench_size 0 = c.fill.ensures.after (λ y e. e) ∙ ap (λ (n : ℕ). replicate n 0) c.requires.0 in
     c.put_u32.ensures
     ∙ ap (λ (l : List ℕ). put32 7 a.carried.0 l) c.put_u16-2.ensures
-    ∙ ap (λ (l : List ℕ). put32 7 a.carried.0 (put16 5 a.clumps (set l 4 (bool_byte a.held)))) c.put_u16.ensures
-    ∙ rw (zeros, bool_byte_lem) (head_stored a.opened (cond a.held 1 0) a.clumps a.carried.0)
+    ∙ ap (λ (l : List ℕ). put32 7 a.carried.0 (put16 5 a.clumps (set l 4 c.from.result))) c.put_u16.ensures
+    ∙ rw (zeros, c.from.ensures, bool_byte_lem) (head_stored a.opened (cond a.held 1 0) a.clumps a.carried.0)
