@@ -13,7 +13,7 @@ use Rattle.numbers.specs.SignedLaws.{abs_parts, eq_parts, add_parts, sub_parts, 
 use Rattle.numbers.specs.Sums.{sum_most}
 use Rattle.rules.specs.Sizes.{heaviest}
 use Rattle.rules.specs.Row.{Row}
-use Rattle.rules.specs.Changes.{Change}
+use Rattle.rules.specs.declared.Change.{Change}
 use Rattle.rules.specs.Steps.{Clump}
 use Rattle.slopes.specs.Tally.{tally_of, tally_cong, tally_moved, moved_one}
 use Rattle.slopes.specs.Slope.{moved_test}

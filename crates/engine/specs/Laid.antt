@@ -7,7 +7,8 @@ use Rattle.std.proofs.Common.{ap, sym, ◌∙◌, add-zero, add-suc, arith, leng
 use Rattle.rules.specs.Sizes.{widest, most_cells, most_nets}
 use Rattle.rules.specs.Row.{Row, Net}
 use Rattle.rules.specs.Reading.{total}
-use Rattle.rules.specs.Changes.{Change, left_cell, right_cell, left_change, right_change, changes_on}
+use Rattle.rules.specs.Changes.{left_cell, right_cell, left_change, right_change, changes_on}
+use Rattle.rules.specs.declared.Change.{Change}
 use Rattle.rules.specs.Bench.{made}
 use Rattle.rules.specs.Steps.{moved}
 use Rattle.numbers.specs.Sums.{sum_to, sum_both}

@@ -4,7 +4,7 @@ use Rattle.std.specs.Prelude.{ℕ, ◌≤◌, ◌<◌, ◌≡◌, List, [], ◌�
 use Rattle.numbers.specs.Signed.{above, below}
 use Rattle.rules.specs.Sizes.{widest, most_cells, most_nets, heaviest}
 use Rattle.rules.specs.Row.{Row}
-use Rattle.rules.specs.Changes.{Change}
+use Rattle.rules.specs.declared.Change.{Change}
 use Rattle.nets.specs.declared.Net.{Net}
 use Rattle.nets.specs.Summary.{summary, nothing}
 

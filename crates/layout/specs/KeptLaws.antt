@@ -19,7 +19,8 @@ use Rattle.numbers.specs.SignedLaws.{one_part, neg_above, neg_below, sub_parts, 
 use Rattle.numbers.specs.Sums.{sum_to}
 use Rattle.rules.specs.Sizes.{widest, heaviest}
 use Rattle.rules.specs.Row.{Row, Net as Listed}
-use Rattle.rules.specs.Changes.{Change, changes_on, left_change, right_change}
+use Rattle.rules.specs.Changes.{changes_on, left_change, right_change}
+use Rattle.rules.specs.declared.Change.{Change}
 use Rattle.slopes.specs.Tally.{tally_of, tally_append, length_tally}
 use Rattle.slopes.specs.Sizes.{need, need_of}
 use Rattle.slopes.specs.Joined.{changes_of}

@@ -15,7 +15,7 @@ use Rattle.numbers.specs.Sums.{sum_to, sum_each}
 use Rattle.rules.specs.Sizes.{widest, heaviest, most_cells, most_nets}
 use Rattle.rules.specs.Row.{Row, Net as Listed}
 use Rattle.rules.specs.Reading.{total}
-use Rattle.rules.specs.Changes.{Change}
+use Rattle.rules.specs.declared.Change.{Change}
 use Rattle.rules.specs.Steps.{moved}
 use Rattle.slopes.specs.Tally.{tally_of, tally_append, tally_moved}
 use Rattle.slopes.specs.Joined.{changes_of}

@@ -1,7 +1,8 @@
 -- Lists that hold the same changes have the same best interval.
 use Rattle.std.specs.Prelude.{◌≡◌, List, ℕ, pos}
 use Rattle.std.proofs.Common.{arith}
-use Rattle.rules.specs.Changes.{Change, best_left, best_right}
+use Rattle.rules.specs.Changes.{best_left, best_right}
+use Rattle.rules.specs.declared.Change.{Change}
 use Rattle.slopes.specs.Tally.{Same}
 use Rattle.slopes.specs.Cheapest.{Side, left, right}
 use Rattle.slopes.specs.Turn.{Turns}

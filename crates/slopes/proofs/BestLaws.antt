@@ -2,7 +2,8 @@
 -- slope turns, which is how an engine finds them.
 use Rattle.std.specs.Prelude.{◌≡◌, List, ℕ, ◌+◌, ◌≤◌, ◌<◌, pos}
 use Rattle.std.proofs.Common.{arith}
-use Rattle.rules.specs.Changes.{Change, cost, rise, fall, candidates, best_left, best_right}
+use Rattle.rules.specs.Changes.{cost, rise, fall, candidates, best_left, best_right}
+use Rattle.rules.specs.declared.Change.{Change}
 use Rattle.slopes.specs.Sizes.{sizes_to, need, sizes_slope}
 use Rattle.slopes.specs.Cheapest.{Side, left, right, Beats, beats_both, cheapest_beats}
 use Rattle.slopes.specs.Turn.{by_order, slack, Turns, turn_candidate, turn_exists}

@@ -4,7 +4,8 @@ use Rattle.std.proofs.Common.{ap, sym, ◌∙◌, ⊎_elim, arith}
 use Rattle.std.proofs.Math.IntN.{ -ℤ-+ℤ_cancel}
 use Rattle.numbers.specs.Signed.{above, below}
 use Rattle.numbers.specs.SignedLaws.{one_part, add_parts, sub_parts, parts_le, le_parts, lt_parts, nonneg}
-use Rattle.rules.specs.Changes.{Change, best_left, best_right}
+use Rattle.rules.specs.Changes.{best_left, best_right}
+use Rattle.rules.specs.declared.Change.{Change}
 use Rattle.rules.specs.Steps.{moved}
 use Rattle.slopes.specs.Tally.{Same}
 use Rattle.slopes.specs.Sizes.{sizes_to, need, sizes_moved, need_moved}

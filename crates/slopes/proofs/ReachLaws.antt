@@ -3,7 +3,8 @@
 use Rattle.std.specs.Prelude.{ℕ, zero, suc, ◌≤◌, ◌<◌, ◌≡◌, List, pos, ◌-ℤ◌}
 use Rattle.std.proofs.Common.{ap, arith}
 use Rattle.numbers.specs.SignedLaws.{le_parts, eq_parts, sub_parts}
-use Rattle.rules.specs.Changes.{Change, best_left, best_right}
+use Rattle.rules.specs.Changes.{best_left, best_right}
+use Rattle.rules.specs.declared.Change.{Change}
 use Rattle.slopes.specs.Sizes.{sizes_to, need, sizes_rise}
 use Rattle.slopes.specs.Cheapest.{left, right}
 use Rattle.slopes.specs.Turn.{by_order}

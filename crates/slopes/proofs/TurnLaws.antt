@@ -3,7 +3,8 @@
 use Rattle.std.specs.Prelude.{◌≡◌, ℕ, zero, suc, ◌+◌, ◌-◌, ◌*◌, ◌≤◌, ◌<◌, pos, ◌≤ℤ◌, List}
 use Rattle.std.proofs.Common.{add-zero, add-suc, arith}
 use Rattle.numbers.specs.SignedLaws.{le_parts}
-use Rattle.rules.specs.Changes.{Change, cost, rise, fall}
+use Rattle.rules.specs.Changes.{cost, rise, fall}
+use Rattle.rules.specs.declared.Change.{Change}
 use Rattle.slopes.specs.Slope.{cost_step, rise_rises, fall_falls}
 use Rattle.slopes.specs.Sizes.{sizes_to, need, sizes_slope}
 use Rattle.slopes.specs.Cheapest.{Side, left, right, Beats}

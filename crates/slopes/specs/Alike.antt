@@ -2,7 +2,8 @@
 -- have the same cost, slope, sizes, number and best interval. A list that is kept sorted is such a list.
 use Rattle.std.specs.Prelude.{◌≡◌, refl, List, ◌++◌, ℕ, length, ℤ}
 use Rattle.std.proofs.Common.{sym, ◌∙◌, arith}
-use Rattle.rules.specs.Changes.{Change, cost_of, cost, rise, fall}
+use Rattle.rules.specs.Changes.{cost_of, cost, rise, fall}
+use Rattle.rules.specs.declared.Change.{Change}
 use Rattle.rules.specs.Steps.{moved}
 use Rattle.slopes.specs.Tally.{Same, rise_of, fall_of, moved_one, cost_tally, rise_tally, fall_tally, length_tally, tally_append, tally_moved}
 use Rattle.slopes.specs.Sizes.{size_to, sizes_to, need_of, need}

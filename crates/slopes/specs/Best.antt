@@ -2,7 +2,8 @@
 -- left end l is the leftmost cheapest and its right end r the rightmost; and they are where the slope turns, which is how an engine finds them.
 use Rattle.std.specs.Prelude.{List, ℕ, ◌≤◌}
 use Rattle.std.proofs.Common.{arith}
-use Rattle.rules.specs.Changes.{Change, cost, candidates, cheapest, best_left, best_right}
+use Rattle.rules.specs.Changes.{cost, candidates, cheapest, best_left, best_right}
+use Rattle.rules.specs.declared.Change.{Change}
 use Rattle.slopes.specs.Cheapest.{Side, left, right, wanted, cheapest_within}
 use Rattle.slopes.specs.Turn.{candidates_within}
 

@@ -4,7 +4,7 @@ use Rattle.std.specs.Prelude.{◌≡◌, refl, List, [], ◌∷◌, ◌++◌, �
 use Rattle.std.proofs.Common.{sym, append-nil, append_assoc, add-zero, add-suc, arith}
 use Rattle.rules.specs.Row.{Row}
 use Rattle.rules.specs.Reading.{total}
-use Rattle.rules.specs.Changes.{Change}
+use Rattle.rules.specs.declared.Change.{Change}
 use Rattle.rules.specs.Steps.{single, moved, joined}
 use Rattle.rules.specs.Bench.{made}
 use Rattle.slopes.specs.Joined.{moved_append, moved_moved, width_of, changes_of, offset, offset_zero, offset_suc, made_width}

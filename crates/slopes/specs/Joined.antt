@@ -10,7 +10,8 @@ use Rattle.std.proofs.Math.IntN.{+ℤ_idr}
 use Rattle.numbers.specs.SignedLaws.{sub_parts, eq_parts}
 use Rattle.numbers.specs.Sums.{sum_to}
 use Rattle.rules.specs.Row.{Row}
-use Rattle.rules.specs.Changes.{Change, changes_on, cost, rise, fall}
+use Rattle.rules.specs.Changes.{changes_on, cost, rise, fall}
+use Rattle.rules.specs.declared.Change.{Change}
 use Rattle.rules.specs.Steps.{Clump, single, moved, joined, standing}
 use Rattle.rules.specs.Bench.{made}
 use Rattle.slopes.specs.Slope.{cost_append, cost_moved, rise_append, rise_moved, fall_append, fall_moved}

@@ -5,7 +5,8 @@ use Rattle.std.proofs.Common.{arith}
 use Rattle.std.specs.Int.Signed.{le_z}
 use Rattle.numbers.specs.Signed.{above, below}
 use Rattle.numbers.specs.SignedLaws.{abs_parts, parts_le, lin_le, lin_nle}
-use Rattle.rules.specs.Changes.{Change, rise, fall}
+use Rattle.rules.specs.Changes.{rise, fall}
+use Rattle.rules.specs.declared.Change.{Change}
 use Rattle.rules.specs.Steps.{moved}
 use Rattle.slopes.specs.Tally.{tally_of, tally_cong, tally_le, tally_balance, tally_append, tally_moved, rise_of, fall_of, moved_one, rise_tally, fall_tally}
 use Rattle.slopes.specs.Slope.{moved_test}

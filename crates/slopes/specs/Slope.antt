@@ -5,7 +5,8 @@ use Rattle.std.proofs.Common.{sym, ◌∙◌, ⊎_elim, arith}
 use Rattle.std.specs.Int.Signed.{le_z}
 use Rattle.numbers.specs.Signed.{above, below}
 use Rattle.numbers.specs.SignedLaws.{one_part, add_parts, sub_parts, parts_le, lin_le, lin_nle, le_lin, nle_lin}
-use Rattle.rules.specs.Changes.{Change, cost_of, cost, rise, fall}
+use Rattle.rules.specs.Changes.{cost_of, cost, rise, fall}
+use Rattle.rules.specs.declared.Change.{Change}
 use Rattle.rules.specs.Steps.{moved}
 use Rattle.slopes.specs.Tally.{tally_cong, tally_le, tally_balance, tally_append, tally_moved, rise_of, fall_of, moved_one, cost_tally, rise_tally, fall_tally}
 

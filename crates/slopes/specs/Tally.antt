@@ -4,7 +4,8 @@ use Rattle.std.specs.Prelude.{◌≡◌, refl, List, [], ◌∷◌, ◌++◌, co
 use Rattle.std.proofs.Common.{arith}
 use Rattle.std.specs.Int.Signed.{le_z}
 use Rattle.numbers.specs.Signed.{above, below}
-use Rattle.rules.specs.Changes.{Change, cost_of, cost, rise, fall}
+use Rattle.rules.specs.Changes.{cost_of, cost, rise, fall}
+use Rattle.rules.specs.declared.Change.{Change}
 use Rattle.rules.specs.Steps.{moved}
 
 -- the sum of f over the changes of a list

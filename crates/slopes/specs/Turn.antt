@@ -6,7 +6,8 @@ use Rattle.std.proofs.Common.{arith}
 use Rattle.std.proofs.Math.Decide.{dec_le}
 use Rattle.std.specs.Int.Signed.{le_z}
 use Rattle.numbers.specs.SignedLaws.{lin_le, lin_nle}
-use Rattle.rules.specs.Changes.{Change, clip, candidates}
+use Rattle.rules.specs.Changes.{clip, candidates}
+use Rattle.rules.specs.declared.Change.{Change}
 use Rattle.slopes.specs.Tally.{tally_of}
 use Rattle.slopes.specs.Sizes.{size_to, sizes_to, need}
 use Rattle.slopes.specs.Cheapest.{Side, left, right}

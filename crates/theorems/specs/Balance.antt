@@ -12,7 +12,8 @@ use Rattle.numbers.specs.Signed.{above, below}
 use Rattle.numbers.specs.SignedLaws.{one_part, neg_above, neg_below, sub_parts, lin_lt, lin_nlt}
 use Rattle.rules.specs.Row.{Net, Row, counted}
 use Rattle.rules.specs.Length.{legal_from, smaller, larger, span}
-use Rattle.rules.specs.Changes.{Change, least, greatest, offsets_on, left_cell, right_cell, left_offset, right_offset, left_fixed, right_fixed, fixed_of, left_change, right_change, changes_on, cost_of, cost}
+use Rattle.rules.specs.Changes.{least, greatest, offsets_on, left_cell, right_cell, left_offset, right_offset, left_fixed, right_fixed, fixed_of, left_change, right_change, changes_on, cost_of, cost}
+use Rattle.rules.specs.declared.Change.{Change}
 use Rattle.slopes.specs.Slope.{cost_append}
 use Rattle.nets.specs.Summary.{summary}
 use Rattle.nets.specs.Span.{span_by, span_at, Tied, Kept}

@@ -7,7 +7,8 @@ use native.Mathlib.Omega.{arith}
 use Rattle.numbers.specs.Log.{whole_log}
 use Rattle.numbers.specs.LogLaws.{whole_log_zero, whole_log_low, whole_log_high}
 use Rattle.rules.specs.Row.{Net, Row}
-use Rattle.rules.specs.Changes.{Change, left_cell, right_cell, left_change, right_change, changes_on}
+use Rattle.rules.specs.Changes.{left_cell, right_cell, left_change, right_change, changes_on}
+use Rattle.rules.specs.declared.Change.{Change}
 use Rattle.rules.specs.Steps.{Clump, empty, holding, Bench, single, moved, joined, standing, end_of, left_of, step, finished, run}
 use Rattle.rules.specs.Bench.{fresh}
 use Rattle.slopes.specs.Joined.{changes_of, moved_length}

@@ -7,7 +7,8 @@ use Prim.Native.Nat.{ℕ, zero, suc, pred, ◌+◌, ◌-◌, ◌≤◌, ◌<◌}
 use native.Mathlib.Omega.{arith}
 use Rattle.rules.specs.Row.{Row}
 use Rattle.rules.specs.Reading.{total}
-use Rattle.rules.specs.Changes.{Change, cost, best_left, best_right}
+use Rattle.rules.specs.Changes.{cost, best_left, best_right}
+use Rattle.rules.specs.declared.Change.{Change}
 use Rattle.rules.specs.Steps.{left_of, right_of}
 use Rattle.rules.specs.Bench.{made}
 use Rattle.slopes.specs.Best.{best_left_within, best_right_within}

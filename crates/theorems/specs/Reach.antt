@@ -8,7 +8,8 @@ use Rattle.numbers.specs.Signed.{above, below}
 use Rattle.numbers.specs.SignedLaws.{add_parts, sub_parts, eq_parts, le_parts}
 use Rattle.rules.specs.Row.{Row}
 use Rattle.rules.specs.Reading.{total}
-use Rattle.rules.specs.Changes.{Change, cost, rise, fall}
+use Rattle.rules.specs.Changes.{cost, rise, fall}
+use Rattle.rules.specs.declared.Change.{Change}
 use Rattle.rules.specs.Steps.{moved}
 use Rattle.rules.specs.Bench.{made}
 use Rattle.slopes.specs.Tally.{tally_of, tally_le, rise_of, fall_of, rise_tally, fall_tally}
