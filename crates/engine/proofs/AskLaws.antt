@@ -13,16 +13,18 @@ use Rattle.slopes.specs.Sizes.{need}
 use Rattle.slopes.specs.Forgotten.{cells_in}
 use Rattle.slopes.specs.Apart.{apart_end, proper_clumps}
 use Rattle.changes.specs.Fills.{Weighed}
+use Rattle.changes.specs.declared.Clump.{Clump as Held}
 use Rattle.changes.specs.FillLaws.{filled_few, filled_counted}
 use Rattle.engine.specs.Laid.{held_before, held_rises, held_most, Layout, Laid}
 use Rattle.engine.specs.Stands.{Lists, stand_of, limit_of, Stands}
 use Rattle.engine.specs.Taken.{stand_of_last, HasLast, with_hand, Makes, MadeAs, Sure, Seeks, FindsAs, Joins, Settles}
 use Rattle.engine.specs.declared.Bench.{Bench}
-use Rattle.engine.specs.declared.Found.{Found}
+use Rattle.engine.specs.declared.Next.{Next}
 use Rattle.engine.proofs.SizeLaws.{need_light}
 use Rattle.engine.proofs.HandLaws.{edge_packed, stand_end, first_cell, last_cell, is_made, all_made, inside, start_first, start_last, bound_first, packed_within, wanted}
+use Rattle.engine.proofs.ChoiceLaws.{FoundFor}
 use Rattle.engine.proofs.HeapLaws.{with_keys, makes_by}
-use Rattle.engine.proofs.StepLaws.{FoundFor, again_stands, last_place, edge_last, bound, first_last, all_inside, start_of_last, bound_of_last, bound_between, bound_past}
+use Rattle.engine.proofs.StepLaws.{again_stands, last_place, edge_last, bound, first_last, all_inside, start_of_last, bound_of_last, bound_between, bound_past}
 
 module _ (R : Row) (y : Layout) (laid : Laid R y) (e : Bench) (ls : Lists) (opened carried : ℕ) where
   abbrev n : ℕ
@@ -34,7 +36,7 @@ module _ (R : Row) (y : Layout) (laid : Laid R y) (e : Bench) (ls : Lists) (open
   -- ---- nothing in hand
 
   pub open_asks : (settled : List Clump) → Stands R y e ls (bench empty settled) → opened < n → (width : ℕ) → width ≡ R.width
-      → Makes e.first (e.opened + 1) width y.starts y.bounds y.at y.slope ls.keys
+      → Makes e.first (e.opened + 1) width y ls.keys
   open_asks settled s h width w =
       let all : cells_in settled ≡ opened = s.numbers.proper.all_cells in
       makes_by R y laid (cells_in settled) (cells_in settled + 1) e.first (e.opened + 1) s.numbers.first_is (omega (arith, s.numbers.opened_is))
@@ -49,7 +51,7 @@ module _ (R : Row) (y : Layout) (laid : Laid R y) (e : Bench) (ls : Lists) (open
     in_row : a + c.cells ≤ n
     in_row = inside R y laid e ls opened carried c settled s
 
-    pub hand_makes : (width : ℕ) → width ≡ R.width → Makes e.first e.opened width y.starts y.bounds y.at y.slope ls.keys
+    pub hand_makes : (width : ℕ) → width ≡ R.width → Makes e.first e.opened width y ls.keys
     hand_makes width w =
         makes_by R y laid a (a + c.cells) e.first e.opened s.numbers.first_is (last_cell R y laid e ls opened carried c settled s)
         (omega arith) in_row ls s.roomy width w
@@ -95,27 +97,17 @@ module _ (R : Row) (y : Layout) (laid : Laid R y) (e : Bench) (ls : Lists) (open
     pub hand_last : HasLast e y.starts ls.cells ls.edges × (stand_of_last e y.starts ls.cells ls.edges ≡ stand_of R settled)
     hand_last = last_by settled refl
 
-    -- the numbers that the step works out
+    -- the places that the step reads
     pub record Rooms : Type 0 where
-      pub starts_first : e.first < length y.starts
-      pub starts_opened : e.opened < length y.starts
-      pub needs_first : e.first < length y.needs
-      pub needs_opened : e.opened < length y.needs
+      pub ordered : e.first ≤ e.opened
+      pub starts_room : e.opened < length y.starts
       pub few : e.opened < 65536
-      pub fewer : e.first ≤ e.opened
 
     pub hand_rooms : Rooms
     hand_rooms =
         let f = first_cell R y laid e ls opened carried c settled s in
         let l = last_cell R y laid e ls opened carried c settled s in
-        record {
-          starts_first = omega (arith, in_row, laid.starts_long);
-          starts_opened = omega (arith, in_row, laid.starts_long);
-          needs_first = omega (arith, in_row, laid.needs_long);
-          needs_opened = omega (arith, in_row, laid.needs_long);
-          few = omega (arith, in_row, laid.few_cells);
-          fewer = omega arith;
-        }
+        record { ordered = omega arith; starts_room = omega (arith, in_row, laid.starts_long); few = omega (arith, in_row, laid.few_cells) }
 
     pub start_is : get_or y.starts e.first 0 ≡ packed R (cells_in settled)
     start_is = start_first R y laid e ls opened carried c settled s
@@ -131,7 +123,7 @@ module _ (R : Row) (y : Layout) (laid : Laid R y) (e : Bench) (ls : Lists) (open
 
     -- ---- sure of the changes
 
-    pub sure_stands : (want width : ℕ) → width ≡ R.width → (keys' : List ℕ) (r : Bench) → Sure e want width y.starts y.bounds y.at y.slope ls.keys keys' r
+    pub sure_stands : (want width : ℕ) → width ≡ R.width → (keys' : List ℕ) (r : Bench) → Sure e want width y ls.keys keys' r
         → Stands R y r (with_keys ls keys') (bench (holding c) settled) × ((want ≤ r.hand.sum) ⊎ (limit_of R (cells_in settled + c.cells) ≤ r.hand.cap))
     sure_stands want width w keys' r u =
         ⊎_elim
@@ -141,7 +133,7 @@ module _ (R : Row) (y : Layout) (laid : Laid R y) (e : Bench) (ls : Lists) (open
           rw h.0 (⊎_elim (λ (g : want ≤ e.hand.sum). inl g)
               (λ (g : width - get_or y.starts e.opened 0 ≤ e.hand.cap). inr (omega (arith, limit_is width w))) h.2),
         ))
-        (λ (m : MadeAs e.first e.opened width y.starts y.bounds y.at y.slope ls.keys keys' r.hand). (
+        (λ (m : MadeAs e.first e.opened width y ls.keys keys' r.hand). (
           subst (λ (d : Bench). Stands R y d (with_keys ls keys') (bench (holding c) settled)) (sym u.only_hand)
               (again_stands R y laid e ls opened carried c settled s keys' r.hand width w m),
           inr (omega (arith, m.cap_is, limit_is width w)),
@@ -150,10 +142,10 @@ module _ (R : Row) (y : Layout) (laid : Laid R y) (e : Bench) (ls : Lists) (open
 
     -- ---- the walk down
 
-    weighed_hand : Weighed y.slope (held_before R a) (held_before R (a + c.cells))
+    weighed_hand : Weighed y.changes (held_before R a) (held_before R (a + c.cells))
     weighed_hand k g l = laid.weighed k (omega arith) (omega (arith, held_rises R (a + c.cells) n in_row))
 
-    pub hand_seeks : (want last : ℕ) → want ≡ need c.changes → last ≡ stand_of R settled → Seeks e want (get_or y.starts e.first 0) last y.bounds ls.keys
+    pub hand_seeks : (want last : ℕ) → want ≡ need c.changes → last ≡ stand_of R settled → Seeks e want (get_or y.starts e.first 0) last (get_or y.bounds e.first 0) ls.keys
     hand_seeks want last q l =
         let base = bound_first R y laid e ls opened carried c settled s in
         let f = s.hand.heap in
@@ -161,7 +153,6 @@ module _ (R : Row) (y : Layout) (laid : Laid R y) (e : Bench) (ls : Lists) (open
         let rises = held_rises R a (a + c.cells) (omega arith) in
         let all = held_rises R (a + c.cells) n in_row in
         record {
-          bounds_room = omega (arith, first_cell R y laid e ls opened carried c settled s, in_row, laid.bounds_long);
           heaped =
               rw base
               (record {
@@ -182,26 +173,23 @@ module _ (R : Row) (y : Layout) (laid : Laid R y) (e : Bench) (ls : Lists) (open
         }
 
     pub found_here : (want last limit : ℕ) → want ≡ need c.changes → last ≡ stand_of R settled → limit ≡ limit_of R (cells_in settled + c.cells)
-        → (want ≤ e.hand.sum) ⊎ (limit_of R (cells_in settled + c.cells) ≤ e.hand.cap) → (keys' : List ℕ) (r : Found)
+        → (want ≤ e.hand.sum) ⊎ (limit_of R (cells_in settled + c.cells) ≤ e.hand.cap) → (keys' : List ℕ) (r : Next)
         → FindsAs e want (get_or y.starts e.first 0) last limit (get_or y.bounds e.first 0) ls.keys keys' r
         → FoundFor R y c settled keys' r
     found_here want last limit q l h sure keys' r f =
         let base = bound_first R y laid e ls opened carried c settled s in
         let g = rw (base, start_is, q, l, h) at f in
-        g y.at y.slope (held_before R (a + c.cells)) weighed_hand s.hand.heap s.hand.near s.hand.far (rw q at sure)
+        g y.changes (held_before R (a + c.cells)) weighed_hand s.hand.heap s.hand.near s.hand.far (rw q at sure)
 
     -- ---- settling
 
-    pub hand_settles : Settles e y.starts ls.cells ls.edges ls.sizes ls.sums
-    hand_settles =
+    pub hand_settles : (held : List Held) → length R.widths ≤ length held → Settles e y.starts held
+    hand_settles held room =
         let f = first_cell R y laid e ls opened carried c settled s in
         let l = last_cell R y laid e ls opened carried c settled s in
         let most = held_most R (a + c.cells) laid.few_nets in
         record {
-          cells_room = omega (arith, few_settled, s.roomy.cells_long);
-          edges_room = omega (arith, few_settled, s.roomy.edges_long);
-          sizes_room = omega (arith, few_settled, s.roomy.sizes_long);
-          sums_room = omega (arith, few_settled, s.roomy.sums_long);
+          clumps_room = omega (arith, few_settled, room);
           starts_room = omega (arith, in_row, laid.starts_long);
           ordered = omega arith;
           few_cells = omega (arith, in_row, laid.few_cells);
@@ -212,7 +200,7 @@ module _ (R : Row) (y : Layout) (laid : Laid R y) (e : Bench) (ls : Lists) (open
   -- ---- joining
 
   pub hand_joins : (b c : Clump) (settled : List Clump) (s : Stands R y e ls (bench (holding c) (b ∷ settled)))
-      → Joins e y.starts y.bounds y.at y.slope ls
+      → Joins e y ls
   unfolding cells_in
   hand_joins b c settled s =
       let first = bound_of_last R y laid e ls opened carried b c settled s in
@@ -240,8 +228,7 @@ module _ (R : Row) (y : Layout) (laid : Laid R y) (e : Bench) (ls : Lists) (open
               left_ordered = omega (arith, first, mid);
               right_ordered = omega (arith, mid, end);
               room = omega (arith, end, s.roomy.keys_long);
-              long = omega (arith, end, laid.at_long);
-              wide = omega (arith, end, laid.slope_long);
+              long = omega (arith, end, laid.changes_long);
               light = omega (arith, end);
               weighed = λ k g l. laid.weighed k (omega arith) (omega (arith, end));
               near = omega (arith, edge, apart_end R.width (b ∷ settled) s.numbers.apart_all, laid.width_most);

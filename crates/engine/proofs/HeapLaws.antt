@@ -12,12 +12,12 @@ use Rattle.changes.specs.Fills.{Filled, Outside}
 use Rattle.changes.specs.FillLaws.{filled_few, filled_outside}
 use Rattle.changes.specs.declared.Kept.{Kept}
 use Rattle.engine.specs.Laid.{held_before, held_rises, held_most, Layout, Laid}
-use Rattle.engine.specs.Stands.{Lists, lists_of, InHeap, kept_of, AllHeaps, limit_of, Roomy}
+use Rattle.engine.specs.Stands.{Lists, InHeap, kept_of, AllHeaps, limit_of, Roomy}
 use Rattle.engine.specs.Taken.{Makes, MadeAs}
 
 -- with other keys
 abbrev pub with_keys : Lists → List ℕ → Lists
-with_keys ls keys = lists_of ls.cells ls.edges ls.sizes ls.sums keys
+with_keys ls keys = record { cells = ls.cells; edges = ls.edges; sizes = ls.sizes; sums = ls.sums; keys = keys }
 
 pub roomy_keys : (R : Row) (ls : Lists) (keys : List ℕ) → length keys ≡ length ls.keys → Roomy R ls → Roomy R (with_keys ls keys)
 roomy_keys R ls keys e r =
@@ -67,7 +67,7 @@ module _ (R : Row) (y : Layout) (laid : Laid R y) (first end i k : ℕ) (i_is : 
   start_to : get_or y.starts k 0 ≡ packed R end
   start_to = ap (λ (j : ℕ). get_or y.starts j 0) k_is ∙ laid.start_at end within
 
-  pub makes_by : (ls : Lists) → Roomy R ls → (width : ℕ) → width ≡ R.width → Makes i k width y.starts y.bounds y.at y.slope ls.keys
+  pub makes_by : (ls : Lists) → Roomy R ls → (width : ℕ) → width ≡ R.width → Makes i k width y ls.keys
   makes_by ls roomy width w =
       let all = held_rises R end (length R.widths) within in
       record {
@@ -76,8 +76,7 @@ module _ (R : Row) (y : Layout) (laid : Laid R y) (first end i k : ℕ) (i_is : 
         bounds_room = omega (arith, laid.bounds_long);
         cells_ordered = omega arith;
         keys_room = omega (arith, bound_to, roomy.keys_long);
-        at_room = omega (arith, bound_to, laid.at_long);
-        slope_room = omega (arith, bound_to, laid.slope_long);
+        changes_room = omega (arith, bound_to, laid.changes_long);
         light = omega (arith, bound_to, held_most R end laid.few_nets);
         weighed = λ j g l. laid.weighed j (omega arith) (omega (arith, bound_to));
         width_most = omega (arith, laid.width_most);
@@ -85,8 +84,8 @@ module _ (R : Row) (y : Layout) (laid : Laid R y) (first end i k : ℕ) (i_is : 
       }
 
   pub made_heap : (keys keys' : List ℕ) (h : Kept) (width : ℕ) → width ≡ R.width
-      → MadeAs i k width y.starts y.bounds y.at y.slope keys keys' h
-      → Filled keys' y.at y.slope (held_before R first) (held_before R first) (held_before R end) h × (h.cap ≡ limit_of R end)
+      → MadeAs i k width y keys keys' h
+      → Filled keys' y.changes (held_before R first) (held_before R first) (held_before R end) h × (h.cap ≡ limit_of R end)
       × Outside keys keys' (held_before R first) (held_before R end)
   made_heap keys keys' h width w m = (
     rw (bound_from, bound_to) at m.filled,

@@ -1,3 +1,4 @@
+pub mod ColumnLaws
 pub mod ClumpLaws
 pub mod SizeLaws
 pub mod HandLaws

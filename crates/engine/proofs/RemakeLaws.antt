@@ -18,7 +18,7 @@ use Rattle.slopes.specs.Apart.{apart_end, apart_rest, proper_clumps}
 use Rattle.changes.specs.Fills.{Filled, Outside}
 use Rattle.changes.specs.declared.Kept.{Kept}
 use Rattle.engine.specs.Laid.{held_before, held_most, Layout, Laid}
-use Rattle.engine.specs.Stands.{Lists, lists_of, stand_of, limit_of, AllHeaps, HandHeap, Listed, Numbers, Roomy, Stands}
+use Rattle.engine.specs.Stands.{Lists, stand_of, limit_of, AllHeaps, HandHeap, Listed, Numbers, Roomy, Stands}
 use Rattle.engine.specs.Taken.{with_hand, Makes, MadeAs}
 use Rattle.engine.specs.declared.Bench.{Bench}
 use Rattle.engine.proofs.HandLaws.{edge_packed}
@@ -102,14 +102,18 @@ next_clump cells edges k (c ∷ cs) l h =
 -- what making its heap asks: its cells end at `past`, and it does not stand left of its packed start
 pub record NextAsks (R : Row) (y : Layout) (ls : Lists) (k first past : ℕ) : Type 0 where
   pub inside : past ≤ length R.widths
-  pub makes : Makes first past R.width y.starts y.bounds y.at y.slope ls.keys
+  pub makes : Makes first past R.width y ls.keys
   pub few_keys : get_or y.bounds past 0 < 65536
   pub edge_low : get_or y.starts first 0 ≤ get_or ls.edges k 0
   pub edge_near : get_or ls.edges k 0 ≤ widest
 
+-- with other sizes, sums and keys
+abbrev pub with_made : Lists → List ℕ → List ℕ → List ℕ → Lists
+with_made ls sizes sums keys = record { cells = ls.cells; edges = ls.edges; sizes = sizes; sums = sums; keys = keys }
+
 -- lists that stay as long as they were
 pub roomy_same : (R : Row) (ls : Lists) (sizes sums keys : List ℕ) → length sizes ≡ length ls.sizes → length sums ≡ length ls.sums
-    → length keys ≡ length ls.keys → Roomy R ls → Roomy R (lists_of ls.cells ls.edges sizes sums keys)
+    → length keys ≡ length ls.keys → Roomy R ls → Roomy R (with_made ls sizes sums keys)
 roomy_same R ls sizes sums keys e f g r =
     record {
       cells_long = r.cells_long;
@@ -153,7 +157,7 @@ module _ (R : Row) (y : Layout) (laid : Laid R y) (e : Bench) (ls : Lists) (open
 
   heap_some : (hand : Hand) → Numbers R e ls.cells ls.edges (record { opened = opened; hand = hand; settled = settled; carried = carried })
       → e.first < e.opened → (keys : List ℕ) (k : Kept)
-      → Filled keys y.at y.slope (held_before R (cells_in settled)) (held_before R (cells_in settled)) (held_before R opened) k
+      → Filled keys y.changes (held_before R (cells_in settled)) (held_before R (cells_in settled)) (held_before R opened) k
       → k.cap ≡ limit_of R opened → HandHeap R y keys k hand settled
   unfolding cells_in
   heap_some empty s h keys k f cap = absurd (omega (arith, hand_none R e ls.cells ls.edges opened carried settled s))
@@ -225,11 +229,11 @@ module _ (R : Row) (y : Layout) (laid : Laid R y) (e : Bench) (ls : Lists) (b : 
           }
 
       pub clump_more : (keys' : List ℕ) (q : Kept)
-          → Filled keys' y.at y.slope (get_or y.bounds first 0) (get_or y.bounds first 0) (get_or y.bounds past 0) q
+          → Filled keys' y.changes (get_or y.bounds first 0) (get_or y.bounds first 0) (get_or y.bounds past 0) q
           → q.cap ≡ get_or ls.edges k 0 - get_or y.starts first 0
           → Outside ls.keys keys' (get_or y.bounds first 0) (get_or y.bounds past 0) → AllHeaps R y ls (earlier k b.settled)
           → (past ≡ cells_in (earlier (k + 1) b.settled))
-          × AllHeaps R y (lists_of ls.cells ls.edges (set ls.sizes k q.size) (set ls.sums k q.sum) keys')
+          × AllHeaps R y (with_made ls (set ls.sizes k q.size) (set ls.sums k q.sum) keys')
           (earlier (k + 1) b.settled)
       clump_more keys' q filled cap outside heaps =
           let c = next.clump in
@@ -249,7 +253,7 @@ module _ (R : Row) (y : Layout) (laid : Laid R y) (e : Bench) (ls : Lists) (b : 
                 stands,
               )
                   (rw (from, to) at filled),
-              heaps_kept R y ls (lists_of ls.cells ls.edges (set ls.sizes k q.size) (set ls.sums k q.sum) keys') (earlier k cs)
+              heaps_kept R y ls (with_made ls (set ls.sizes k q.size) (set ls.sums k q.sum) keys') (earlier k cs)
                   (λ i l. get_or-set_other ls.sizes k i q.size 0 (λ z. omega arith))
                   (λ i l. get_or-set_other ls.sums k i q.sum 0 (λ z. omega arith))
                   (λ i l. outside.before i (omega arith)) heaps,
@@ -258,7 +262,7 @@ module _ (R : Row) (y : Layout) (laid : Laid R y) (e : Bench) (ls : Lists) (b : 
 
     -- ---- the clump in hand last
 
-    pub hand_makes : (width : ℕ) → width ≡ R.width → Makes e.first e.opened width y.starts y.bounds y.at y.slope ls.keys
+    pub hand_makes : (width : ℕ) → width ≡ R.width → Makes e.first e.opened width y ls.keys
     hand_makes width w =
         makes_by R y laid e.first e.opened e.first e.opened refl refl ordered (omega (arith, numbers.opened_is, numbers.within)) ls
         roomy width w
@@ -273,7 +277,7 @@ module _ (R : Row) (y : Layout) (laid : Laid R y) (e : Bench) (ls : Lists) (b : 
         }
 
     pub remade_with : (e.first ≡ e.opened → ⊥) → AllHeaps R y ls b.settled → (width : ℕ) → width ≡ R.width → (keys' : List ℕ) (q : Kept)
-        → MadeAs e.first e.opened width y.starts y.bounds y.at y.slope ls.keys keys' q
+        → MadeAs e.first e.opened width y ls.keys keys' q
         → Stands R y (with_hand e q) (with_keys ls keys') b
     remade_with h heaps width w keys' q m =
         let some : e.first < e.opened =

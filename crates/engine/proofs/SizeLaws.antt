@@ -57,10 +57,10 @@ unfolding size_left size_to
 moved_left v d c = left_test v (c.at -ℤ pos d) (nat_abs c.slope) ∙ rw (moved_test d (pos v -ℤ pos 1) c.at, farther v d) refl
 
 module _ (R : Row) (y : Layout) (laid : Laid R y) (a : ℕ) (c : Clump) (m : MadeAt R a c) (inside : a + c.cells ≤ length R.widths) where
-  pub lefts_before : (v : ℕ) → lefts v y.at y.slope (held_before R a) (held_before R (a + c.cells)) ≡ sizes_before c.changes (v + packed R a)
+  pub lefts_before : (v : ℕ) → lefts v y.changes (held_before R a) (held_before R (a + c.cells)) ≡ sizes_before c.changes (v + packed R a)
   unfolding lefts sizes_to size_left
   lefts_before v =
-      stretch_sum y.at y.slope (held_before R a) (size_left v) (held_before R (a + c.cells) - held_before R a)
+      stretch_sum y.changes (held_before R a) (size_left v) (held_before R (a + c.cells) - held_before R a)
       ∙ ap (tally_of (size_left v)) (laid.stretch a c.cells inside ∙ sym (clump_framed R a c m))
       ∙ tally_moved (size_left v) (packed R a) c.changes
       ∙ tally_cong (λ d. size_left v (moved_one (packed R a) d)) (size_to (pos (v + packed R a) -ℤ pos 1)) (moved_left v (packed R a)) c.changes
@@ -81,7 +81,7 @@ module _ (R : Row) (y : Layout) (laid : Laid R y) (a : ℕ) (c : Clump) (m : Mad
         arith,
         e,
         ap need (laid.stretch a c.cells inside),
-        stretch_sum y.at y.slope first need_of count,
-        sum_most (λ i. need_of (change_at y.at y.slope (first + i))) heaviest count
-            (λ i l. omega (arith, abs_parts (change_at y.at y.slope (first + i)).slope, laid.weighed (first + i) (omega arith) (omega arith))),
+        stretch_sum y.changes first need_of count,
+        sum_most (λ i. need_of (change_at y.changes (first + i))) heaviest count
+            (λ i l. omega (arith, abs_parts (change_at y.changes (first + i)).slope, laid.weighed (first + i) (omega arith) (omega arith))),
       )

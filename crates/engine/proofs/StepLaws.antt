@@ -22,20 +22,15 @@ use Rattle.changes.specs.Steps.{JoinedAs}
 use Rattle.changes.specs.declared.Kept.{Kept}
 use Rattle.changes.specs.declared.Joined.{Joined}
 use Rattle.engine.specs.Laid.{held_before, held_most, Layout, Laid}
-use Rattle.engine.specs.Stands.{Lists, lists_of, stand_of, limit_of, Listed, Stands}
-use Rattle.engine.specs.Taken.{last_of, first_of_last, with_hand, with_opened, with_joined, with_settled, MadeAs, FoundAs, meeting_of, settled_lists}
+use Rattle.engine.specs.Stands.{Lists, stand_of, limit_of, Listed, Stands}
+use Rattle.engine.specs.Taken.{last_of, first_of_last, with_hand, with_opened, with_joined, with_settled, MadeAs, kept_next, meeting_of, settled_lists}
 use Rattle.engine.specs.declared.Bench.{Bench}
-use Rattle.engine.specs.declared.Found.{Found}
+use Rattle.engine.specs.declared.Next.{Next}
+use Rattle.engine.specs.declared.Next.TheVariants.{Settles as Settling}
 use Rattle.engine.proofs.ClumpLaws.{clump_held}
 use Rattle.engine.proofs.HandLaws.{stands_rise, last_cell, is_made, all_made, inside, start_first, bound_first, bound_last, packed_within}
-use Rattle.engine.proofs.ChoiceLaws.{settles_at, not_joined}
+use Rattle.engine.proofs.ChoiceLaws.{FoundFor, settles_at, not_joined}
 use Rattle.engine.proofs.HeapLaws.{with_keys, roomy_keys, heaps_kept, heaps_before, made_heap}
-
--- what the walk down the heap in hand found
-abbrev pub FoundFor : Row → Layout → Clump → List Clump → List ℕ → Found → Type 0
-FoundFor R y c settled keys r =
-    FoundAs keys y.at y.slope (held_before R (cells_in settled)) (held_before R (cells_in settled + c.cells)) (need c.changes)
-    (packed R (cells_in settled)) (stand_of R settled) (limit_of R (cells_in settled + c.cells)) r
 
 -- a clump after the last is not listed
 listed_set : (cells edges : List ℕ) (k v w : ℕ) (cs : List Clump) → length cs ≤ k → Listed cells edges cs → Listed (set cells k v) (set edges k w) cs
@@ -56,7 +51,7 @@ module _ (R : Row) (y : Layout) (laid : Laid R y) (e : Bench) (ls : Lists) (open
   -- ---- open
 
   pub opened_stands : (settled : List Clump) (keys' : List ℕ) (k : Kept) → Stands R y e ls (bench empty settled) → opened < n
-      → (width : ℕ) → width ≡ R.width → MadeAs e.first (e.opened + 1) width y.starts y.bounds y.at y.slope ls.keys keys' k
+      → (width : ℕ) → width ≡ R.width → MadeAs e.first (e.opened + 1) width y ls.keys keys' k
       → Stands R y (with_opened e k) (with_keys ls keys') (step R (bench empty settled))
   unfolding step step_by opens single
   opened_stands settled keys' k s h width w m =
@@ -89,7 +84,7 @@ module _ (R : Row) (y : Layout) (laid : Laid R y) (e : Bench) (ls : Lists) (open
     a = cells_in settled
 
     hand_stands : (keys' : List ℕ) (k : Kept) (end : ℕ) → Outside ls.keys keys' (held_before R (cells_in settled)) end
-        → Filled keys' y.at y.slope (held_before R a) (held_before R a) (held_before R (a + c.cells)) k → k.cap ≤ limit_of R (a + c.cells)
+        → Filled keys' y.changes (held_before R a) (held_before R a) (held_before R (a + c.cells)) k → k.cap ≤ limit_of R (a + c.cells)
         → (stand_of R settled ≤ k.cap) ⊎ (k.cap ≡ limit_of R (a + c.cells)) → Stands R y (with_hand e k) (with_keys ls keys') (bench (holding c) settled)
     hand_stands keys' k end o f near far =
         let old = s.numbers in
@@ -112,35 +107,34 @@ module _ (R : Row) (y : Layout) (laid : Laid R y) (e : Bench) (ls : Lists) (open
         }
 
     pub again_stands : (keys' : List ℕ) (k : Kept) (width : ℕ) → width ≡ R.width
-        → MadeAs e.first e.opened width y.starts y.bounds y.at y.slope ls.keys keys' k
+        → MadeAs e.first e.opened width y ls.keys keys' k
         → Stands R y (with_hand e k) (with_keys ls keys') (bench (holding c) settled)
     again_stands keys' k width w m =
         let there = made_heap R y laid a (a + c.cells) e.first e.opened s.numbers.first_is
         (last_cell R y laid e ls opened carried c settled s) (omega arith) (inside R y laid e ls opened carried c settled s) ls.keys keys' k width w m in
         hand_stands keys' k (held_before R (a + c.cells)) there.2 there.0 (omega (arith, there.1)) (inr there.1)
 
-    pub found_stands : (keys' : List ℕ) (r : Found) (end : ℕ) → Outside ls.keys keys' (held_before R (cells_in settled)) end → FoundFor R y c settled keys' r
-        → Stands R y (with_hand e r.hand) (with_keys ls keys') (bench (holding c) settled)
-    found_stands keys' r end o f = hand_stands keys' r.hand end o f.filled f.near f.far
+    pub found_stands : (keys' : List ℕ) (r : Next) (end : ℕ) → Outside ls.keys keys' (held_before R (cells_in settled)) end → FoundFor R y c settled keys' r
+        → Stands R y (with_hand e (kept_next r)) (with_keys ls keys') (bench (holding c) settled)
+    found_stands keys' r end o f = hand_stands keys' (kept_next r) end o f.filled f.near f.far
 
     -- ---- settle
 
-    pub settled_stands : (r : Found) → r.hand ≡ e.hand → FoundFor R y c settled ls.keys r → r.joins ≡ false
+    pub settled_stands : FoundFor R y c settled ls.keys (Settling e.hand)
         → Stands R y (with_settled e) (settled_lists e y.starts ls) (step R (bench (holding c) settled))
     unfolding step step_by settles cells_in
-    settled_stands r q f j =
+    settled_stands f =
         let old = s.numbers in
         let before = bench (holding c) settled in
         let made = is_made R y laid e ls opened carried c settled s in
         let all = all_made R y laid e ls opened carried c settled s in
         let in_row = inside R y laid e ls opened carried c settled s in
         let fits = packed_within R y laid e ls opened carried c settled s in
-        let stays : end_of settled ≤ right_of R c = not_joined R y laid c settled made all in_row old.apart_all fits ls.keys r f j in
+        let stays : end_of settled ≤ right_of R c = not_joined R y laid c settled made all in_row old.apart_all fits ls.keys e.hand f in
         let next : step R before ≡ settles R before c = rw (le-ltb (right_of R c) (end_of settled) stays) refl in
         let x = max (end_of settled) (left_of R c) in
-        let cap : r.hand.cap ≡ e.hand.cap = ap (λ (k : Kept). k.cap) q in
         let start = start_first R y laid e ls opened carried c settled s in
-        let at : e.hand.cap + packed R a ≡ x = omega (arith, settles_at R y laid c settled made all in_row old.apart_all fits ls.keys r f j) in
+        let at : e.hand.cap + packed R a ≡ x = omega (arith, settles_at R y laid c settled made all in_row old.apart_all fits ls.keys e.hand f) in
         let edge : e.hand.cap + get_or y.starts e.first 0 ≡ x = omega arith in
         let count : e.opened - e.first ≡ c.cells = omega (arith, old.first_is, last_cell R y laid e ls opened carried c settled s) in
         let few : length settled < n = omega (arith, proper_clumps R before old.proper, old.within) in
@@ -180,8 +174,13 @@ module _ (R : Row) (y : Layout) (laid : Laid R y) (e : Bench) (ls : Lists) (open
             )
                 s.hand.heap,
             heaps_kept R y ls
-                (lists_of (set ls.cells (length settled) c.cells) (set ls.edges (length settled) (max (end_of settled) (left_of R c)))
-                (set ls.sizes (length settled) e.hand.size) (set ls.sums (length settled) e.hand.sum) ls.keys) settled
+                (record {
+                  cells = set ls.cells (length settled) c.cells;
+                  edges = set ls.edges (length settled) (max (end_of settled) (left_of R c));
+                  sizes = set ls.sizes (length settled) e.hand.size;
+                  sums = set ls.sums (length settled) e.hand.sum;
+                  keys = ls.keys;
+                }) settled
                 (λ i l. get_or-set_other ls.sizes (length settled) i e.hand.size 0 (λ z. omega arith))
                 (λ i l. get_or-set_other ls.sums (length settled) i e.hand.sum 0 (λ z. omega arith)) (λ i l. refl) s.heaps,
           );
@@ -226,7 +225,7 @@ module _ (R : Row) (y : Layout) (laid : Laid R y) (e : Bench) (ls : Lists) (open
     bound_past = bound_last R y laid e ls opened carried c (b ∷ settled) s
 
     pub joined_stands : (keys' : List ℕ) (r : Joined) → right_of R c < end_of (b ∷ settled)
-        → JoinedAs (meeting_of e y.starts y.bounds ls) ls.keys keys' y.at y.slope r
+        → JoinedAs (meeting_of e y ls) ls.keys keys' y.changes r
         → Stands R y (with_joined e ls.cells y.bounds r.kept) (with_keys ls keys') (step R (bench (holding c) (b ∷ settled)))
     unfolding step step_by joins joined cells_in
     joined_stands keys' r right j =

@@ -1,7 +1,7 @@
 -- What each step does to the engine's numbers and lists (document 01, "The steps").
 use Rattle.std.specs.Prelude.{ℕ, ◌+◌, ◌-◌, ◌*◌, ◌^◌, ◌≤◌, ◌<◌, min, ◌≡◌, cond, ◌⊎◌, List, length, get_or, set, eqb}
 use Rattle.rules.specs.Sizes.{widest, heaviest}
-use Rattle.rules.specs.Changes.{Change}
+use Rattle.rules.specs.declared.Change.{Change}
 use Rattle.changes.specs.Fills.{Weighed, lefts, Filled, Outside}
 use Rattle.changes.specs.Steps.{Heaped, Meets}
 use Rattle.changes.specs.declared.Clump.{Clump}

@@ -40,7 +40,7 @@ impl Bench {
     fn filled(self, row: Layout<'_>, keys: &mut [u32]) -> Self
         requires { Makes self.first self.opened row.width (seen row) keys.old }
         ensures value { result ≡ with_hand self result.hand }
-        ensures made_as { MadeAs self.first self.opened row.width (seen row) keys.old keys.new result.hand }
+        ensures made_as { MadeAs self.first self.opened row.entry.width (seen row.entry) keys.old keys.new result.hand }
     {
         let base = usize::from(row.places[self.first].bound);
         let after = row.places[self.opened];
@@ -60,7 +60,7 @@ impl Bench {
     pub fn open(self, row: Layout<'_>, keys: &mut [u32]) -> Self
         requires { Makes self.first (self.opened + 1) row.width (seen row) keys.old }
         ensures value { result ≡ with_opened self result.hand }
-        ensures made_as { MadeAs self.first (self.opened + 1) row.width (seen row) keys.old keys.new result.hand }
+        ensures made_as { MadeAs self.first (self.opened + 1) row.entry.width (seen row.entry) keys.old keys.new result.hand }
     {
         let next = Bench {
             opened: self.opened + 1,
@@ -80,7 +80,7 @@ impl Bench {
     // Where the last settled clump stands, counted from its packed start; 0 if there is none.
     fn stand(self, row: Layout<'_>, clumps: &[Clump]) -> u32
         requires { HasLast self (seen row).starts (cells_of clumps.now) (edges_of clumps.now) }
-        ensures { result ≡ stand_of_last self (seen row).starts (cells_of clumps.now) (edges_of clumps.now) }
+        ensures { result ≡ stand_of_last self (seen row.entry).starts (cells_of clumps.now) (edges_of clumps.now) }
     {
         if self.settled == 0 {
             return 0;
@@ -91,8 +91,8 @@ impl Bench {
     // Join: the last settled clump and the one in hand are one clump in hand. The changes of the side that has fewer are put into the other's heap.
     pub fn join(self, row: Layout<'_>, clumps: &[Clump], keys: &mut [u32]) -> Self
         requires { Joins self (seen row) (lists_of clumps.now keys.old) }
-        ensures value { result ≡ with_joined self (cells_of clumps.now) (seen row).bounds result.hand }
-        ensures joined_as { JoinedAs (meeting_of self (seen row) (lists_of clumps.now keys.old)) keys.old keys.new row.changes.now (record { kept = result.hand; carried = result.carried }) }
+        ensures value { result ≡ with_joined self (cells_of clumps.now) (seen row.entry).bounds result.hand }
+        ensures joined_as { JoinedAs (meeting_of self (seen row.entry) (lists_of clumps.now keys.old)) keys.old keys.new row.entry.changes.now (record { kept = result.hand; carried = result.carried }) }
     {
         let last = clumps[self.settled - 1];
         let first = self.first_of_last(clumps);
@@ -123,7 +123,7 @@ impl Bench {
     pub fn settle(self, row: Layout<'_>, clumps: &mut [Clump]) -> Self
         requires { Settles self (seen row).starts clumps.old }
         ensures value { result ≡ with_settled self }
-        ensures clumps_after { clumps.new ≡ set clumps.old self.settled (settled_clump self (seen row).starts) }
+        ensures clumps_after { clumps.new ≡ set clumps.old self.settled (settled_clump self (seen row.entry).starts) }
     {
         clumps[self.settled] = Clump {
             cells: (self.opened - self.first) as u16,
@@ -148,7 +148,7 @@ impl Bench {
     // Sure of its changes: where what is wanted is not reached up to the cap, and the cap is not yet the limit, they are put into a heap again.
     fn sure(self, want: u32, row: Layout<'_>, keys: &mut [u32]) -> Self
         requires { Makes self.first self.opened row.width (seen row) keys.old }
-        ensures { Sure self want row.width (seen row) keys.old keys.new result }
+        ensures { Sure self want row.entry.width (seen row.entry) keys.old keys.new result }
     {
         if want <= self.hand.sum || row.width - row.places[self.opened].start <= self.hand.cap {
             return self;
@@ -191,7 +191,7 @@ impl Bench {
     // One step. Nothing in hand: open. In hand: join or settle, as its changes tell.
     pub fn step(self, row: Layout<'_>, clumps: &mut [Clump], keys: &mut [u32]) -> Self
         requires { Unfinished row.width (seen row) self (lists_of clumps.old keys.old) }
-        ensures { StepsAs row.width (seen row) self (lists_of clumps.old keys.old) result (lists_of clumps.new keys.new) }
+        ensures { StepsAs row.entry.width (seen row.entry) self (lists_of clumps.old keys.old) result (lists_of clumps.new keys.new) }
     {
         if self.first == self.opened {
             return self.open(row, keys);
@@ -217,7 +217,7 @@ impl Bench {
     // A bench that was loaded: the changes of each of its clumps are put into a heap again. That carries nothing.
     fn remake(self, row: Layout<'_>, clumps: &mut [Clump], keys: &mut [u32]) -> Self
         requires { Resumes row.width (seen row) self (lists_of clumps.old keys.old) }
-        ensures { RemadeAs row.width (seen row) self (lists_of clumps.old keys.old) result (lists_of clumps.new keys.new) }
+        ensures { RemadeAs row.entry.width (seen row.entry) self (lists_of clumps.old keys.old) result (lists_of clumps.new keys.new) }
     {
         let mut first = 0;
         for k in 0..self.settled {
@@ -256,7 +256,7 @@ pub struct Ran {
 // At most `budget` steps, until the bench is finished.
 fn run(from: Bench, budget: u32, row: Layout<'_>, clumps: &mut [Clump], keys: &mut [u32]) -> Ran
     requires { Ready row.width (seen row) from (lists_of clumps.old keys.old) }
-    ensures { RunsAs budget row.width (seen row) from (lists_of clumps.old keys.old) result (lists_of clumps.new keys.new) }
+    ensures { RunsAs budget row.entry.width (seen row.entry) from (lists_of clumps.old keys.old) result (lists_of clumps.new keys.new) }
 {
     let mut bench = from;
     let mut steps = 0;
@@ -282,7 +282,7 @@ pub fn resume(
     keys: &mut [u32],
 ) -> Ran
     requires { Resumes row.width (seen row) from (lists_of clumps.old keys.old) }
-    ensures { ResumesAs budget row.width (seen row) from (lists_of clumps.old keys.old) result clumps.new }
+    ensures { ResumesAs budget row.entry.width (seen row.entry) from (lists_of clumps.old keys.old) result clumps.new }
 {
     let made = from.remake(row, clumps, keys);
     run(made, budget, row, clumps, keys)

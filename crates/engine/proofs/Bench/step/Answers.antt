@@ -1,12 +1,15 @@
 -- `step`: what each part asks holds of the row and the bench that the lists stand for, and opening, joining and settling end by their step's law.
-use Rattle.std.proofs.Common.{ℕ, ◌≡◌, ◌≤◌, ◌<◌, List, length, arith, refl, sym, subst}
+use Rattle.std.proofs.Common.{ℕ, ◌≡◌, ◌+◌, ◌-◌, ◌≤◌, ◌<◌, List, length, get_or, arith, refl, sym, ◌∙◌}
 use Rattle.rules.specs.Row.{Row}
 use Rattle.rules.specs.Steps.{Bench as Meant}
-use Rattle.engine.specs.Laid.{Layout, layout_of, Laid}
-use Rattle.engine.specs.Stands.{Lists, lists_of, Stands}
-use Rattle.engine.specs.declared.Bench.{Bench}
-use Rattle.engine.proofs.MoveLaws.{opens_asks, opens_stands, Chosen, settles_asks, settles_stands, joins_asks, joins_stands, move_makes, move_last, move_limit, move_want, move_starts, move_needs, move_seeks, move_chosen}
-use Rattle.engine.proofs.Bench.step.Goals.{Else-self, After-holding-next}
+use Rattle.changes.specs.Fills.{Outside}
+use Rattle.engine.specs.Laid.{Layout, seen, Laid}
+use Rattle.engine.specs.Stands.{lists_of, Stands}
+use Rattle.engine.specs.Taken.{with_hand, kept_next, Seeks, FindsAs}
+use Rattle.engine.specs.declared.Next.{Next}
+use Rattle.engine.proofs.ColumnLaws.{no_place, starts_length, start_read, bound_read, need_read}
+use Rattle.engine.proofs.MoveLaws.{opens_asks, opens_stands, Chosen, settles_asks, settles_stands, joins_asks, joins_stands, move_makes, move_last, move_limit, move_want, move_rooms, move_seeks, move_chosen}
+use Rattle.engine.proofs.Bench.step.Goals.{Else-self, After-from}
 use Rattle.engine.proofs.Bench.step.Goals as goal
 
 -- ---- open
@@ -14,99 +17,118 @@ use Rattle.engine.proofs.Bench.step.Goals as goal
 pub open-requires : goal.open-requires
 open-requires c =
     let r = c.requires.ready in
-    opens_asks r.row _ r.laid r.bench c.args.self _ r.stands c.if-self.true c.requires.unfinished c.args.width r.width_is
+    opens_asks r.row _ r.laid r.bench c.args.self _ r.stands c.if-self.true c.requires.unfinished c.args.row.width r.width_is
 
 pub returns-then-self : goal.returns-then-self
 returns-then-self c R b w laid stands f =
-    opens_stands R _ laid b c.args.self _ stands c.if-self.true f c.args.width w _ c.open.result c.open.ensures.value c.open.ensures.made_as
+    opens_stands R _ laid b c.args.self _ stands c.if-self.true f c.args.row.width w _ c.open.result c.open.ensures.value c.open.ensures.made_as
 
 -- ---- a clump in hand: the numbers that are worked out, for the row and the bench of the step's own premise
 
-starts_room : (c : Else-self) → (c.args.self.first < length c.args.starts.now) × (c.args.self.opened < length c.args.starts.now)
-starts_room c = let r = c.requires.ready in move_starts r.row _ r.laid r.bench c.args.self _ r.stands c.if-self.false
+rooms : (c : Else-self) → (c.args.self.first ≤ c.args.self.opened) × (c.args.self.opened < length c.args.row.places.now) × (c.args.self.opened < 65536)
+rooms c =
+    let r = c.requires.ready in
+    rw starts_length at (move_rooms r.row _ r.laid r.bench c.args.self _ r.stands c.if-self.false)
 
-needs_room : (c : Else-self)
-    → (c.args.self.first < length c.args.needs.now) × (c.args.self.opened < length c.args.needs.now) × (c.args.self.opened < 65536) × (c.args.self.first ≤ c.args.self.opened)
-needs_room c = let r = c.requires.ready in move_needs r.row _ r.laid r.bench c.args.self _ r.stands c.if-self.false
+pub offset_bounds-row-self : goal.offset_bounds-row-self
+offset_bounds-row-self c = let h = rooms (goal.at.offset_bounds-row-self c).Else-self in omega arith
 
-pub offset_bounds-starts-first : goal.offset_bounds-starts-first
-offset_bounds-starts-first c = let h = needs_room (goal.at.offset_bounds-starts-first c).Else-self in omega (arith, h.2, h.3)
+pub bounds-row-self : goal.bounds-row-self
+bounds-row-self c = let h = rooms (goal.at.bounds-row-self c).Else-self in omega arith
 
-pub bounds-starts-first : goal.bounds-starts-first
-bounds-starts-first c = (starts_room (goal.at.bounds-starts-first c).Else-self).0
+pub offset_bounds-row-self-2 : goal.offset_bounds-row-self-2
+offset_bounds-row-self-2 c = let h = rooms (goal.at.offset_bounds-row-self-2 c).Else-self in omega arith
 
-pub overflow_sub-limit : goal.overflow_sub-limit
-overflow_sub-limit c =
-    let r = c.requires.ready in move_limit r.row _ r.laid r.bench c.args.self _ r.stands c.if-self.false c.args.width r.width_is
+pub bounds-row-self-2 : goal.bounds-row-self-2
+bounds-row-self-2 c = let h = rooms (goal.at.bounds-row-self-2 c).Else-self in omega arith
+
+pub overflow_sub-want : goal.overflow_sub-want
+overflow_sub-want c =
+    let r = c.requires.ready in
+    rw (need_read, need_read) at (move_want r.row _ r.laid r.bench c.args.self _ r.stands c.if-self.false)
 
 pub stand-last-requires : goal.stand-last-requires
 stand-last-requires c = let r = c.requires.ready in move_last r.row _ r.laid r.bench c.args.self _ r.stands c.if-self.false
 
-pub offset_bounds-needs-first : goal.offset_bounds-needs-first
-offset_bounds-needs-first c = let h = needs_room (goal.at.offset_bounds-needs-first c).Else-self in omega (arith, h.2, h.3)
-
-pub bounds-needs-first : goal.bounds-needs-first
-bounds-needs-first c = (needs_room (goal.at.bounds-needs-first c).Else-self).0
-
-pub overflow_sub-want : goal.overflow_sub-want
-overflow_sub-want c = let r = c.requires.ready in move_want r.row _ r.laid r.bench c.args.self _ r.stands c.if-self.false
-
 pub sure-sure-requires : goal.sure-sure-requires
 sure-sure-requires c =
-    let r = c.requires.ready in move_makes r.row _ r.laid r.bench c.args.self _ r.stands c.if-self.false c.args.width r.width_is
+    let r = c.requires.ready in move_makes r.row _ r.laid r.bench c.args.self _ r.stands c.if-self.false c.args.row.width r.width_is
+
+pub overflow_sub-row : goal.overflow_sub-row
+overflow_sub-row c =
+    let r = c.requires.ready in
+    rw start_read at (move_limit r.row _ r.laid r.bench c.args.self _ r.stands c.if-self.false c.args.row.width r.width_is)
 
 -- ---- what it does next
 
-pub found-found-requires : goal.found-found-requires
-found-found-requires c =
-    let r = c.requires.ready in
-    move_seeks r.row _ r.laid r.bench c.args.self _ r.stands c.if-self.false _ _ c.args.width refl c.stand-last.ensures r.width_is _
-    c.sure-sure.result c.sure-sure.ensures
+-- what is handed on, for any row and bench that the lists stand for
+module _ (c : After-from) where
+  abbrev want : ℕ
+  want = (get_or c.args.row.places.now c.args.self.opened no_place).need - (get_or c.args.row.places.now c.args.self.first no_place).need
 
-abbrev layout : After-holding-next → Layout
-layout c = layout_of c.args.starts.now c.args.bounds.now c.args.needs.now c.args.at.now c.args.slope.now
+  abbrev start : ℕ
+  start = (get_or c.args.row.places.now c.args.self.first no_place).start
 
-abbrev lists : After-holding-next → List ℕ → Lists
-lists c keys = lists_of c.args.cells.now c.args.edges.now c.args.sizes.now c.args.sums.now keys
+  abbrev limit : ℕ
+  limit = c.args.row.width - (get_or c.args.row.places.now c.args.self.opened no_place).start
 
--- for a row and a bench that the lists stand for
-chosen : (c : After-holding-next) (R : Row) (b : Meant) → c.args.width ≡ R.width → (laid : Laid R (layout c))
-    → Stands R (layout c) c.args.self (lists c c.args.keys.now) b
-    → Chosen R (layout c) laid b c.holding-next.result (lists c c.found-found.new.keys) c.found-found.result
-chosen c R b w laid stands =
-    subst (λ (d : Bench). Chosen R (layout c) laid b d (lists c c.found-found.new.keys) c.found-found.result) (sym c.holding-next.ensures)
-    (move_chosen R (layout c) laid b c.args.self (lists c c.args.keys.now) stands c.if-self.false _ _ c.args.width refl c.stand-last.ensures w _
-    c.sure-sure.result c.sure-sure.ensures _ c.found-found.result c.found-found.ensures.outside c.found-found.ensures.finds_as)
+  want_is : want ≡ get_or (seen c.args.row).needs c.args.self.opened 0 - get_or (seen c.args.row).needs c.args.self.first 0
+  want_is = rw (need_read, need_read) refl
+
+  start_is : start ≡ get_or (seen c.args.row).starts c.args.self.first 0
+  start_is = rw start_read refl
+
+  limit_is : limit ≡ c.args.row.width - get_or (seen c.args.row).starts c.args.self.opened 0
+  limit_is = rw start_read refl
+
+  base_is : c.from.result ≡ get_or (seen c.args.row).bounds c.args.self.first 0
+  base_is = c.from.ensures ∙ rw bound_read refl
+
+  seeks : Seeks c.sure-sure.result want start c.stand-last.result c.from.result c.sure-sure.new.keys
+  seeks =
+      let r = c.requires.ready in
+      move_seeks r.row _ r.laid r.bench c.args.self _ r.stands c.if-self.false c.args.row.width want start c.stand-last.result limit c.from.result
+      r.width_is want_is start_is c.stand-last.ensures limit_is base_is _ c.sure-sure.result c.sure-sure.ensures
+
+  chosen : (R : Row) (b : Meant) → c.args.row.width ≡ R.width → (laid : Laid R (seen c.args.row))
+      → Stands R (seen c.args.row) c.args.self (lists_of c.args.clumps.now c.args.keys.now) b
+      → (keys : List ℕ) (r : Next) → Outside c.sure-sure.new.keys keys c.from.result (c.from.result + c.sure-sure.result.hand.size)
+      → FindsAs c.sure-sure.result want start c.stand-last.result limit c.from.result c.sure-sure.new.keys keys r
+      → Chosen R (seen c.args.row) laid b (with_hand c.sure-sure.result (kept_next r)) (lists_of c.args.clumps.now keys) r
+  chosen R b w laid stands keys r outside finds =
+      move_chosen R (seen c.args.row) laid b c.args.self _ stands c.if-self.false c.args.row.width want start c.stand-last.result limit c.from.result
+      w want_is start_is c.stand-last.ensures limit_is base_is _ c.sure-sure.result c.sure-sure.ensures keys r outside finds
+
+pub next-requires : goal.next-requires
+next-requires c = seeks (goal.at.next-requires c).After-from
 
 -- ---- join
 
 pub join-requires : goal.join-requires
 join-requires c =
-    let h = (goal.at.join-requires c).After-holding-next in
     let r = c.requires.ready in
-    joins_asks r.row (layout h) r.laid r.bench h.holding-next.result (lists h h.found-found.new.keys) h.found-found.result
-    (chosen h r.row r.bench r.width_is r.laid r.stands) c.if-found.true
+    let e = c.in-Joins.ensures in
+    joins_asks r.row _ r.laid r.bench _ _
+    (chosen (goal.at.join-requires c).After-from r.row r.bench r.width_is r.laid r.stands _ _ e.outside e.finds_as)
 
-pub returns-then-found : goal.returns-then-found
-returns-then-found c R b w laid stands f =
-    let h = (goal.at.returns-then-found c).After-holding-next in
+pub returns-in-Joins : goal.returns-in-Joins
+returns-in-Joins c R b w laid stands f =
+    let e = c.in-Joins.ensures in
     rw c.join.ensures.value
-    (joins_stands R (layout h) laid b h.holding-next.result (lists h h.found-found.new.keys) h.found-found.result (chosen h R b w laid stands)
-    c.if-found.true _ (record { kept = c.join.result.hand; carried = c.join.result.carried }) c.join.ensures.joined_as)
+    (joins_stands R _ laid b _ _ (chosen (goal.at.returns-in-Joins c).After-from R b w laid stands _ _ e.outside e.finds_as) _
+    (record { kept = c.join.result.hand; carried = c.join.result.carried }) c.join.ensures.joined_as)
 
 -- ---- settle
 
 pub settle-requires : goal.settle-requires
 settle-requires c =
-    let h = (goal.at.settle-requires c).After-holding-next in
     let r = c.requires.ready in
-    settles_asks r.row (layout h) r.laid r.bench h.holding-next.result (lists h h.found-found.new.keys) h.found-found.result
-    (chosen h r.row r.bench r.width_is r.laid r.stands)
+    let e = c.in-Settles.ensures in
+    settles_asks r.row _ r.laid r.bench _ _ _
+    (chosen (goal.at.settle-requires c).After-from r.row r.bench r.width_is r.laid r.stands _ _ e.outside e.finds_as)
 
-pub returns : goal.returns
-returns c R b w laid stands f =
-    let h = (goal.at.returns c).After-holding-next in
-    let e = c.settle.ensures in
-    rw (e.value, e.cells_after, e.edges_after, e.sizes_after, e.sums_after)
-    (settles_stands R (layout h) laid b h.holding-next.result (lists h h.found-found.new.keys) h.found-found.result (chosen h R b w laid stands)
-    c.if-found.false)
+pub returns-in-Settles : goal.returns-in-Settles
+returns-in-Settles c R b w laid stands f =
+    let e = c.in-Settles.ensures in
+    rw (c.settle.ensures.value, c.settle.ensures.clumps_after)
+    (settles_stands R _ laid b _ _ _ (chosen (goal.at.returns-in-Settles c).After-from R b w laid stands _ _ e.outside e.finds_as))

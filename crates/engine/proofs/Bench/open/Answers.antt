@@ -1,0 +1,1 @@
+use Rattle.engine.proofs.Bench.open.Goals as goal
