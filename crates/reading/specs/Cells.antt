@@ -7,15 +7,19 @@ use Rattle.numbers.specs.Bytes.{u16_at}
 use Rattle.rules.specs.Sizes.{widest, most_cells, most_nets}
 use Rattle.rules.specs.Records.{Reading, record_at, takes}
 use Rattle.rules.specs.Reading.{refused, start, after, total, read_row}
+use Rattle.rules.specs.declared.Refusal.{Refusal}
 use Rattle.rules.specs.declared.Refused.{Refused}
 use Rattle.rules.specs.declared.Record.TheVariants.{Rw, Ce}
+use Rattle.records.specs.declared.First.{First}
 use Rattle.records.specs.declared.Progress.{Progress}
 use Rattle.records.specs.Progress.{progress_after}
 use Rattle.records.specs.Shows.{Shows}
 use Rattle.records.specs.Parts.{AtCells}
 use Rattle.records.specs.Answers.{answers_may, answers_say}
+use Rattle.records.specs.Recorded.{recorded, row_record}
 use Rattle.reading.specs.SoundLaws.{start_good, total_small}
-use Rattle.reading.specs.Underway.{Underway, next_cell, next_other}
+use Rattle.reading.specs.Reads.{placed}
+use Rattle.reading.specs.Underway.{Underway, next_cell, next_other, says_refused, recorded_ok, recorded_err}
 use Rattle.reading.specs.declared.Cells.{Cells}
 
 -- what the loop over the cells keeps
@@ -26,9 +30,18 @@ pub record InCells (s ws : List ℕ) (sum : ℕ) (p : Progress) (t : List ℕ) (
   pub said : c.head.nets ≤ min (u16_at s 8) most_nets
 
 -- before RW
-pub first_underway : (s ws : List ℕ) (p : Progress) → Shows p ws start → Underway s ws 0 p s start
+first_underway : (s ws : List ℕ) (p : Progress) → Shows p ws start → Underway s ws 0 p s start
 unfolding start read_row total
 first_underway s ws p shows = record { shows = shows; good = start_good; adds = refl; room = omega arith; same = refl }
+
+-- what was read first is RW, or a refusal of the row
+module _ (s : List ℕ) (p : Progress) (read : Result First Refusal) (told : recorded row_record read ≡ record_at start s) where
+  pub row_read : (h : First) → Ok h ≡ placed p.place read → record_at start s ≡ Ok (row_record h)
+  row_read h e = recorded_ok p.place read row_record (record_at start s) told h e
+
+  pub row_refused : (ws : List ℕ) → Shows p ws start → (f : Refused) → Err f ≡ placed p.place read → read_row s ≡ refused f.refusal f.place
+  row_refused ws shows f e =
+      says_refused s ws 0 p s start (first_underway s ws p shows) f (recorded_err p.place read row_record (record_at start s) told f e)
 
 pub first_cells : (s ws : List ℕ) (p : Progress) (w n m : ℕ) → Shows p ws start → min (u16_at s 6) most_cells ≤ length ws
     → record_at start s ≡ Ok (Rw w n m)
@@ -57,6 +70,15 @@ module _ (s ws : List ℕ) (sum : ℕ) (p : Progress) (t : List ℕ) (c : Readin
       → InCells s (set ws p.filled w) (sum + w) (progress_after p (Ce w)) (drop (takes (Ce w)) t) (after c (Ce w))
   unfolding after
   more_cells w is = record { underway = next_cell s ws sum p t c i.underway w is; started = i.started; none = i.none; said = i.said }
+
+  -- while a width is missing, what was read is CE, or a refusal of the row
+  module _ (read : Result ℕ Refusal) (few : p.filled < p.cells) (told : (x : Reading) → AtCells x → recorded Ce read ≡ record_at x t) where
+    pub cell_read : (w : ℕ) → Ok w ≡ placed p.place read → record_at c t ≡ Ok (Ce w)
+    cell_read w e = recorded_ok p.place read Ce (record_at c t) (told c (cell_due few)) w e
+
+    pub cell_refused : (f : Refused) → Err f ≡ placed p.place read → read_row s ≡ refused f.refusal f.place
+    cell_refused f e =
+        says_refused s ws sum p t c i.underway f (recorded_err p.place read Ce (record_at c t) (told c (cell_due few)) f e)
 
 -- ---- between the cells and the nets
 

@@ -15,9 +15,10 @@ use Rattle.nets.specs.declared.Net.{Net}
 use Rattle.nets.specs.declared.Draft.{Draft}
 use Rattle.reading.specs.ReadingLaws.{read_end}
 use Rattle.reading.specs.SoundLaws.{sound_read}
-use Rattle.reading.specs.Reads.{closed_by, Holds}
+use Rattle.reading.specs.Reads.{closed_by, Holds, Reads}
 use Rattle.reading.specs.Underway.{Underway}
 use Rattle.reading.specs.Nets.{InNets, all_stored}
+use Rattle.reading.specs.declared.Sheet.{Sheet}
 
 -- ---- the last two checks
 
@@ -69,10 +70,10 @@ module _ (s : List ℕ) (sum : ℕ) (p : Progress) (t : List ℕ) (c : Reading) 
         let u = i.underway in
         at_end ∙ ended_taken c (drop 2 t) none (omega (arith, u.shows.width, u.adds))
 
--- ---- what the lists hold
+-- ---- what is answered
 
 -- EN closes the last net, and the lists hold the row that is taken
-pub holds_taken : (s ws : List ℕ) (sum : ℕ) (p : Progress) (t : List ℕ) (d : Option Draft) (ns : List Net) (c : Reading)
+holds_taken : (s ws : List ℕ) (sum : ℕ) (p : Progress) (t : List ℕ) (d : Option Draft) (ns : List Net) (c : Reading)
     → InNets s ws sum p t d ns c → record_at c t ≡ Ok En → read_row s ≡ taken (row_of c)
     → Holds p.width ws (take p.nets (closed_by En p d ns)) (row_of c)
 holds_taken s ws sum p t d ns c i is e =
@@ -84,3 +85,12 @@ holds_taken s ws sum p t d ns c i is e =
       nets_are = rw (u.shows.nets, ← m.all_nets) (all_stored s ws sum p t d ns c i En refl);
       sound = sound_read s (row_of c) e;
     }
+
+pub reads_taken : (s ws : List ℕ) (sum : ℕ) (p : Progress) (t : List ℕ) (d : Option Draft) (ns : List Net) (c : Reading)
+    → InNets s ws sum p t d ns c → record_at c t ≡ Ok En → read_row s ≡ taken (row_of c) → (h : Sheet) → h.width ≡ p.width → h.widths.now ≡ ws
+    → h.nets.now ≡ take p.nets (closed_by En p d ns) → Reads (read_row s) (Ok h)
+reads_taken s ws sum p t d ns c i is e h width widths nets =
+    rw (e, width, widths, nets) (holds_taken s ws sum p t d ns c i is e)
+
+pub reads_refused : (s : List ℕ) (f : Refused) → read_row s ≡ refused f.refusal f.place → Reads (read_row s) (Err f)
+reads_refused s f e = rw e refl

@@ -1,5 +1,5 @@
 -- The nets: what the loop over their records keeps, and what one record more makes of it.
-use Rattle.std.specs.Prelude.{ℕ, suc, ◌+◌, ◌-◌, ◌≤◌, ◌<◌, min, ◌≡◌, List, [], ◌∷◌, ◌++◌, map, reverse, Bool, true, false, length, take, drop, get_or, set, Option, Some, None, IfSome, Ok}
+use Rattle.std.specs.Prelude.{ℕ, suc, ◌+◌, ◌-◌, ◌≤◌, ◌<◌, min, ◌≡◌, List, [], ◌∷◌, ◌++◌, map, reverse, Bool, true, false, length, take, drop, get_or, set, Option, Some, None, IfSome, Result, Ok, Err}
 use Rattle.std.proofs.Math.Path.{refl}
 use Rattle.std.proofs.Common.{sym, ap, ◌∙◌, arith}
 use Rattle.std.proofs.Math.ListN.{length-set}
@@ -10,7 +10,9 @@ use Rattle.numbers.specs.Bytes.{u16_at}
 use Rattle.rules.specs.Sizes.{widest, most_nets}
 use Rattle.rules.specs.Row.{Pin, fixed, on, Net as Listed}
 use Rattle.rules.specs.Records.{Reading, record_at, takes}
-use Rattle.rules.specs.Reading.{with_pin, after}
+use Rattle.rules.specs.Reading.{refused, with_pin, after, read_row}
+use Rattle.rules.specs.declared.Refusal.{Refusal}
+use Rattle.rules.specs.declared.Refused.{Refused}
 use Rattle.rules.specs.declared.Record.{Record}
 use Rattle.rules.specs.declared.Record.TheVariants.{Rw, Ce, Nt, Fp, Mp, En}
 use Rattle.records.specs.declared.Progress.{Progress}
@@ -26,8 +28,8 @@ use Rattle.nets.specs.declared.Net.{Net}
 use Rattle.nets.specs.declared.Draft.{Draft}
 use Rattle.reading.specs.ReadingLaws.{goes_on}
 use Rattle.reading.specs.SoundLaws.{behind}
-use Rattle.reading.specs.Reads.{closes_net, closed_by}
-use Rattle.reading.specs.Underway.{Underway, unlike, next_other}
+use Rattle.reading.specs.Reads.{placed, closes_net, closed_by}
+use Rattle.reading.specs.Underway.{Underway, next_other, says_refused, unlike, placed_ok, placed_err}
 use Rattle.reading.specs.Cells.{Through}
 use Rattle.reading.specs.declared.Cells.{Cells}
 
@@ -140,16 +142,26 @@ module _ (s ws : List ℕ) (sum : ℕ) (p : Progress) (t : List ℕ) (d : Option
   pub at_nets : AtNets c
   at_nets = record { started = i.started; all_cells = i.all_cells }
 
-  -- there are as many widths as cells
-  pub widths_long : length ws ≡ p.cells
-  widths_long = omega (arith, ap length i.exact, i.all_cells, i.underway.shows.cells)
+  -- what was read is the record that stands next, or a refusal of the row
+  module _ (read : Result Record Refusal) (told : (x : Reading) → Shows p ws x → AtNets x → length ws ≡ p.cells → read ≡ record_at x t) where
+    stands_next : read ≡ record_at c t
+    stands_next = told c i.underway.shows at_nets (omega (arith, ap length i.exact, i.all_cells, i.underway.shows.cells))
+
+    pub net_read : (r : Record) → Ok r ≡ placed p.place read → record_at c t ≡ Ok r
+    net_read r e = sym stands_next ∙ placed_ok p.place read r e
+
+    pub net_refused : (f : Refused) → Err f ≡ placed p.place read → read_row s ≡ refused f.refusal f.place
+    net_refused f e =
+        let h = placed_err p.place read f e in
+        says_refused s ws sum p t c i.underway f (sym stands_next ∙ h.0, h.1)
 
   -- there is room for every net that is opened
-  pub slot : (p.width ≤ widest) × ((p.opened ≤ length ns) × IfSome d (λ x. 1 ≤ p.opened))
+  pub slot : (p.width ≤ widest) × (p.opened ≤ length ns) × IfSome d (λ x. 1 ≤ p.opened)
   slot =
       let u = i.underway in (
         omega (arith, u.shows.width, u.good.wide),
-        (omega (arith, u.shows.opened, u.good.within.opened, i.slots), rw u.shows.opened (drafting_open d c.nets i.drafting)),
+        omega (arith, u.shows.opened, u.good.within.opened, i.slots),
+        rw u.shows.opened (drafting_open d c.nets i.drafting),
       )
 
   pub all_stored : (r : Record) → closes_net r ≡ true → Stored c.head.width (closed_by r p d ns) c.nets

@@ -1,5 +1,5 @@
--- Laws of reading a row record by record: how many records are allowed for does not matter, and what stands next makes
--- of the rest (refused, ended, or on with the next record).
+-- Laws of reading a row record by record: how many records are allowed for does not matter, and what stands next makes of
+-- the rest (refused, ended, or on with the next record).
 use Rattle.std.specs.Prelude.{ℕ, zero, suc, ◌≤◌, ◌<◌, ◌≡◌, refl, List, Bool, true, false, length, drop, Result, Ok, Err}
 use Rattle.std.proofs.Common.{ap, ◌∙◌, arith, length-drop}
 use Rattle.rules.specs.Records.{Reading, record_at, takes}
@@ -17,6 +17,15 @@ goes_on (Nt w) = true
 goes_on (Fp x) = true
 goes_on (Mp i o) = true
 goes_on En = false
+
+-- all but EN do
+pub going : (r : Record) → (r ≡ En → ⊥) → goes_on r ≡ true
+going (Rw w n m) other = refl
+going (Ce w) other = refl
+going (Nt w) other = refl
+going (Fp x) other = refl
+going (Mp i o) other = refl
+going En other = absurd (other refl)
 
 -- every record has a mark
 takes_mark : (r : Record) → 2 ≤ takes r

@@ -58,19 +58,33 @@ module _ (s ws : List ℕ) (sum : ℕ) (p : Progress) (t : List ℕ) (c : Readin
   next_other r is going kept room = next r ws sum is going (rw kept u.shows.widths) (rw kept u.adds) room
 
   -- a refused record refuses the row at its place
-  pub says_refused : (f : Refused) → record_at c t ≡ Err f.refusal → f.place ≡ p.place → read_row s ≡ refused f.refusal f.place
-  says_refused f is at = rw (at, u.shows.place) (u.same ∙ read_refused c t f.refusal is)
+  pub says_refused : (f : Refused) → (record_at c t ≡ Err f.refusal) × (f.place ≡ p.place) → read_row s ≡ refused f.refusal f.place
+  says_refused f h = rw (h.1, u.shows.place) (u.same ∙ read_refused c t f.refusal h.0)
 
 -- ---- what a reader of one record answered
 
 pub unlike : false ≡ true → ⊥
 unlike e = let z : ◌≡◌ {A = ℕ} 0 1 = cc in omega arith
 
-module _ {A : Type 0} (place : ℕ) where
-  pub placed_ok : (read : Result A Refusal) (x : A) → placed place read ≡ Ok x → read ≡ Ok x
-  placed_ok (Ok y) x e = cc
-  placed_ok (Err q) x e = cc
+-- of what was read, the record, or a refusal at its place
+module _ {A : Type 0} (place : ℕ) (read : Result A Refusal) where
+  pub placed_ok : (x : A) → Ok x ≡ placed place read → read ≡ Ok x
+  placed_ok x = go read
+    where
+      go : (a : Result A Refusal) → Ok x ≡ placed place a → a ≡ Ok x
+      go (Ok y) e = cc
+      go (Err q) e = cc
 
-  pub placed_err : (read : Result A Refusal) (f : Refused) → placed place read ≡ Err f → (read ≡ Err f.refusal) × (f.place ≡ place)
-  placed_err (Ok y) f e = cc
-  placed_err (Err q) f e = (cc, cc)
+  pub placed_err : (f : Refused) → Err f ≡ placed place read → (read ≡ Err f.refusal) × (f.place ≡ place)
+  placed_err f = go read
+    where
+      go : (a : Result A Refusal) → Err f ≡ placed place a → (a ≡ Err f.refusal) × (f.place ≡ place)
+      go (Ok y) e = cc
+      go (Err q) e = (cc, cc)
+
+  module _ (g : A → Record) (a : Result Record Refusal) (told : recorded g read ≡ a) where
+    pub recorded_ok : (x : A) → Ok x ≡ placed place read → a ≡ Ok (g x)
+    recorded_ok x e = sym told ∙ ap (recorded g) (placed_ok x e)
+
+    pub recorded_err : (f : Refused) → Err f ≡ placed place read → (a ≡ Err f.refusal) × (f.place ≡ place)
+    recorded_err f e = let p = placed_err f e in (sym told ∙ ap (recorded g) p.0, p.1)

@@ -5,4 +5,9 @@ use Rattle.reading.specs.Cells.{InCells}
 use Rattle.reading.proofs.read_cells.Given as goal
 
 abbrev pub invariant-loop-k : goal.invariant-loop-k
-invariant-loop-k l = (c : Reading) × ((l.k ≡ l.p.filled) × ((l.p.cells ≡ l.initial.p.cells) × InCells l.s l.widths l.sum l.p l.t c))
+invariant-loop-k l = record {
+  reading : Reading;
+  filled : l.k ≡ l.p.filled;
+  cells : l.p.cells ≡ l.initial.p.cells;
+  stands : InCells l.s l.widths l.sum l.p l.t reading;
+}
