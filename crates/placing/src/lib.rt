@@ -58,7 +58,7 @@ pub fn place(
 ) -> Result<u64, Refusal>
     requires bench_len { (length bench.now ≡ bench_size) × (length sheet.widths.now + 1 ≤ length starts.old) × (length sheet.widths.now ≤ length counts.old) × (length sheet.widths.now ≤ length edges.old) × (length placement.old ≡ 4 * length sheet.widths.now) }
     requires holds { (R : Row) × Holds sheet.width sheet.widths.now sheet.nets.now R }
-    ensures { (R : Row) → Holds sheet.width sheet.widths.now sheet.nets.now R → PlacedAs R bench.now placement.old placement.new result }
+    ensures { (R : Row) → Holds sheet.entry.width sheet.entry.widths.now sheet.entry.nets.now R → PlacedAs R bench.now placement.old placement.new result }
 {
     let cells = sheet.widths.len();
     layout::lay_starts(sheet.widths, cells, starts);
