@@ -50,7 +50,7 @@ module _ (width : ℕ) (widths : List ℕ) (nets : List Net) (R : Row) (held : H
   held_widths i l = rw held.widths_are (every_at WidthFits R.widths i 0 held.sound.widths (omega (arith, as_many))).1
 
   pub held_told : (starts : List ℕ) → Places widths (length widths) starts → Told R width (length widths) starts
-  held_told starts p = record { wide = held.width_is; many = as_many; sums = rw held.widths_are at p.sums }
+  held_told starts p = record { wide = held.width_is; many = as_many; sums = λ i h. rw (← held.widths_are) (p.sums i h) }
 
   module _ (s counts edges : List ℕ) (saved : Saved) (loaded : Loaded R s counts edges saved) (form : in_form R s ≡ true) where
     -- the test for finished

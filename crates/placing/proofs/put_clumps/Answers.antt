@@ -1,5 +1,5 @@
 -- `put_clumps` meets its contract: the clump at hand is the bench's, and it is put after those left of it.
-use Rattle.std.proofs.Common.{ℕ, ◌+◌, ◌-◌, ◌≤◌, ◌<◌, ◌≡◌, List, length, get_or, drop, refl, ap, sym, ◌∙◌, arith, add-one}
+use Rattle.std.proofs.Common.{ℕ, ◌+◌, ◌-◌, ◌≤◌, ◌<◌, ◌≡◌, List, length, get_or, drop, ap, sym, ◌∙◌, arith, add-one}
 use Rattle.rules.specs.Row.{Row}
 use Rattle.rules.specs.Bench.{saved_clumps, saved_cells, saved_edge, cells_before}
 use Rattle.rules.specs.Calls.{packed}
