@@ -1,13 +1,13 @@
 -- Laws of the calls' definitions, way by way: what each answers where the row is refused, a buffer has another length, or all is well.
-use Rattle.std.specs.Prelude.{ℕ, ◌*◌, ◌≡◌, true, false, List, Ok, Err}
+use Rattle.std.specs.Prelude.{ℕ, ◌*◌, ◌≡◌, ◌<◌, true, false, List, Ok, Err}
 use Rattle.std.proofs.Math.Path.{refl}
-use Rattle.std.proofs.Common.{ap, sym, ◌∙◌}
+use Rattle.std.proofs.Common.{ap, sym, ◌∙◌, arith}
 use Rattle.std.proofs.Math.ListN.{length}
 use borrow.Author.Tests.{eq-eqb, ne_eqb}
 use Rattle.rules.specs.Refusals.{refusal}
 use Rattle.rules.specs.Row.{Row}
 use Rattle.rules.specs.Reading.{taken, read_row}
-use Rattle.rules.specs.Length.{overlap, netlength}
+use Rattle.rules.specs.Length.{legal, overlap, overlap_from}
 use Rattle.rules.specs.Sizes.{bench_size}
 use Rattle.rules.specs.Bench.{bench_of, in_form}
 use Rattle.rules.specs.Calls.{Outcome, refuse, check_call, measure_call, measured, sites_from, slice_call, sliced, placement_call}
@@ -16,6 +16,10 @@ use Rattle.rules.specs.declared.Refusal.TheVariants.{Room, WrongBench, Overlap}
 use Rattle.reading.specs.declared.Sheet.{Sheet}
 use Rattle.reading.specs.Reads.{Holds, Reads}
 use Rattle.reading.specs.ReadsLaws.{reads_ok, reads_err}
+use Rattle.nets.specs.OverlapLaws.{none_legal, sites_length}
+use Rattle.nets.specs.Span.{length_by}
+use Rattle.measuring.specs.Measures.{Measurable}
+use Rattle.measuring.specs.HeldLaws.{measurable, measured_length}
 use Rattle.lugsheet.specs.Answers.{answered}
 
 -- answer and buffer by the whole outcome
@@ -38,33 +42,71 @@ pub measure_err : (row placement : List ℕ) (f : Refused) → Reads (read_row r
 unfolding measure_call
 measure_err row placement f h = rw (reads_err (read_row row) f h) refl
 
-module _ (row placement : List ℕ) (R : Row) (e : read_row row ≡ taken R) where
-  pub measure_room : (length placement ≡ 4 * length R.widths → ⊥) → (measure_call row placement).answer ≡ refusal Room 0
+-- of a row R that is taken, by what is held of it in h; s is the placement
+module _ (row s : List ℕ) (h : Sheet) (R : Row) (e : read_row row ≡ taken R) (held : Holds h.width h.widths.now h.nets.now R) where
+  far_off : (length s ≡ 4 * length h.widths.now → ⊥) → refusal Room 0 ≡ (measure_call row s).answer
   unfolding measure_call
-  measure_room h = rw (e, ne_eqb (length placement) (4 * length R.widths) h) refl
+  far_off far = rw (e, ne_eqb (length s) (4 * length R.widths) (λ q. far (rw held.widths_are q))) refl
 
-  module _ (h : length placement ≡ 4 * length R.widths) where
-    pub measure_overlap : (overlap R (sites_from placement 0 (length R.widths)) ≡ length R.widths → ⊥)
-        → (measure_call row placement).answer ≡ refusal Overlap (overlap R (sites_from placement 0 (length R.widths)))
-    unfolding measure_call measured
-    measure_overlap n =
-        rw (
-          e,
-          eq-eqb (length placement) (4 * length R.widths) h,
-          ne_eqb (overlap R (sites_from placement 0 (length R.widths))) (length R.widths) n,
-        )
-        refl
+  module _ (long : length s ≡ 4 * length h.widths.now) where
+    right_length : length s ≡ 4 * length R.widths
+    right_length = long ∙ ap (λ (ws : List ℕ). 4 * length ws) held.widths_are
 
-    pub measure_done : overlap R (sites_from placement 0 (length R.widths)) ≡ length R.widths
-        → (measure_call row placement).answer ≡ netlength R (sites_from placement 0 (length R.widths))
-    unfolding measure_call measured
-    measure_done n =
-        rw (
-          e,
-          eq-eqb (length placement) (4 * length R.widths) h,
-          eq-eqb (overlap R (sites_from placement 0 (length R.widths))) (length R.widths) n,
-        )
-        refl
+    -- what is looked for is the definition's first overlap
+    first_is : overlap_from h.width 0 0 h.widths.now (sites_from s 0 (length h.widths.now)) ≡ overlap R (sites_from s 0 (length R.widths))
+    unfolding overlap
+    first_is = rw (held.width_is, held.widths_are) refl
+
+    module _ (i : ℕ) (found : i ≡ overlap_from h.width 0 0 h.widths.now (sites_from s 0 (length h.widths.now))) where
+      overlaps : i < length h.widths.now → refusal Overlap i ≡ (measure_call row s).answer
+      unfolding measure_call measured
+      overlaps l =
+          let is = found ∙ first_is in
+          rw (
+            e,
+            eq-eqb (length s) (4 * length R.widths) right_length,
+            ne_eqb (overlap R (sites_from s 0 (length R.widths))) (length R.widths) (λ q. omega (arith, is, l, ap length held.widths_are)),
+          )
+          (ap (λ (n : ℕ). refusal Overlap n) is)
+
+      module _ (past : i ≡ length h.widths.now) where
+        none : overlap R (sites_from s 0 (length R.widths)) ≡ length R.widths
+        none = omega (arith, found ∙ first_is, past, ap length held.widths_are)
+
+        sites_legal : legal R (sites_from s 0 (length R.widths)) ≡ true
+        sites_legal = none_legal R (sites_from s 0 (length R.widths)) (sites_length s 0 (length R.widths)) none
+
+        ready : Measurable h.nets.now R.widths s
+        ready = measurable h.width h.widths.now h.nets.now R held s right_length sites_legal
+
+        done : (n : ℕ) → ((ws : List ℕ) → Measurable h.nets.now ws s → n ≡ length_by (sites_from s 0 (length ws)) h.nets.now)
+            → n ≡ (measure_call row s).answer
+        unfolding measure_call measured
+        done n sums =
+            rw (
+              e,
+              eq-eqb (length s) (4 * length R.widths) right_length,
+              eq-eqb (overlap R (sites_from s 0 (length R.widths))) (length R.widths) none,
+            )
+            (sums R.widths ready ∙ measured_length h.width h.widths.now h.nets.now R held s right_length sites_legal)
+
+-- the same by what reading the row answers
+module _ (row s : List ℕ) (h : Sheet) (r : Reads (read_row row) (Ok h)) where
+  pub measure_room : (length s ≡ 4 * length h.widths.now → ⊥) → refusal Room 0 ≡ (measure_call row s).answer
+  measure_room far = let t = reads_ok (read_row row) h r in far_off row s h t.0 t.1.0 t.1.1 far
+
+  module _ (long : length s ≡ 4 * length h.widths.now) (i : ℕ)
+      (found : i ≡ overlap_from h.width 0 0 h.widths.now (sites_from s 0 (length h.widths.now))) where
+    pub measure_overlap : i < length h.widths.now → refusal Overlap i ≡ (measure_call row s).answer
+    measure_overlap l = let t = reads_ok (read_row row) h r in overlaps row s h t.0 t.1.0 t.1.1 long i found l
+
+    pub measure_ready : i ≡ length h.widths.now → (ws : List ℕ) × Measurable h.nets.now ws s
+    measure_ready past =
+        let t = reads_ok (read_row row) h r in (t.0.widths, ready row s h t.0 t.1.0 t.1.1 long i found past)
+
+    pub measure_done : i ≡ length h.widths.now → (n : ℕ)
+        → ((ws : List ℕ) → Measurable h.nets.now ws s → n ≡ length_by (sites_from s 0 (length ws)) h.nets.now) → n ≡ (measure_call row s).answer
+    measure_done past n sums = let t = reads_ok (read_row row) h r in done row s h t.0 t.1.0 t.1.1 long i found past n sums
 
 -- ---- slice
 
