@@ -64,15 +64,17 @@ module _ (cs : List Clump) where
   sum_read i = get_or-map (λ (c : Clump). c.sum) cs i no_clump
 
   -- the lists with a clump put in
-  pub lists_set : (k : ℕ) (c : Clump) (keys : List ℕ)
-      → lists_of (set cs k c) keys
-      ≡ record {
+  abbrev pub lists_put : ℕ → Clump → List ℕ → Lists
+  lists_put k c keys =
+      record {
         cells = set (cells_of cs) k c.cells;
         edges = set (edges_of cs) k c.edge;
         sizes = set (sizes_of cs) k c.size;
         sums = set (sums_of cs) k c.sum;
         keys = keys;
       }
+
+  pub lists_set : (k : ℕ) (c : Clump) (keys : List ℕ) → lists_of (set cs k c) keys ≡ lists_put k c keys
   lists_set k c keys =
       rw (
         map-set (λ (c : Clump). c.cells) cs k c,

@@ -221,22 +221,14 @@ impl Bench {
     {
         let mut first = 0;
         for k in 0..self.settled {
-            let clump = clumps[k];
+            let clump = &mut clumps[k];
             let place = row.places[first];
             let next = first + usize::from(clump.cells);
+            let base = usize::from(place.bound);
             let end = usize::from(row.places[next].bound);
-            let kept = made(
-                keys,
-                row.changes,
-                usize::from(place.bound),
-                end,
-                clump.edge - place.start,
-            );
-            clumps[k] = Clump {
-                size: kept.size as u16,
-                sum: kept.sum,
-                ..clump
-            };
+            let kept = made(keys, row.changes, base, end, clump.edge - place.start);
+            clump.size = kept.size as u16;
+            clump.sum = kept.sum;
             first = next;
         }
         if self.first == self.opened {
