@@ -1,5 +1,5 @@
 -- Laws of the calls' definitions, way by way: what each answers where the row is refused, a buffer has another length, or all is well.
-use Rattle.std.specs.Prelude.{ℕ, ◌*◌, ◌≡◌, ◌<◌, true, false, List, Ok, Err}
+use Rattle.std.specs.Prelude.{ℕ, ◌*◌, ◌≡◌, ◌<◌, Bool, true, false, List, Result, Ok, Err}
 use Rattle.std.proofs.Math.Path.{refl}
 use Rattle.std.proofs.Common.{ap, sym, ◌∙◌, arith}
 use Rattle.std.proofs.Math.ListN.{length}
@@ -10,7 +10,8 @@ use Rattle.rules.specs.Reading.{taken, read_row}
 use Rattle.rules.specs.Length.{legal, overlap, overlap_from}
 use Rattle.rules.specs.Sizes.{bench_size}
 use Rattle.rules.specs.Bench.{bench_of, in_form}
-use Rattle.rules.specs.Calls.{Outcome, refuse, check_call, measure_call, measured, sites_from, slice_call, sliced, placement_call}
+use Rattle.rules.specs.Calls.{Outcome, bit, refuse, check_call, measure_call, measured, sites_from, slice_call, sliced, placement_call}
+use Rattle.rules.specs.declared.Refusal.{Refusal}
 use Rattle.rules.specs.declared.Refused.{Refused}
 use Rattle.rules.specs.declared.Refusal.TheVariants.{Room, WrongBench, Overlap}
 use Rattle.reading.specs.declared.Sheet.{Sheet}
@@ -20,6 +21,10 @@ use Rattle.nets.specs.OverlapLaws.{none_legal, sites_length}
 use Rattle.nets.specs.Span.{length_by}
 use Rattle.measuring.specs.Measures.{Measurable}
 use Rattle.measuring.specs.HeldLaws.{measurable, measured_length}
+use Rattle.slicing.specs.declared.Sliced.{Sliced}
+use Rattle.slicing.specs.Sliced.{SlicedAs, advanced_outcome}
+use Rattle.placing.specs.PlacedAs.{PlacedAs}
+use Rattle.placing.specs.CallLaws.{call_refused, call_placed}
 use Rattle.lugsheet.specs.Answers.{answered}
 
 -- answer and buffer by the whole outcome
@@ -115,33 +120,91 @@ pub slice_err : (row bench : List ℕ) (budget : ℕ) (f : Refused) → Reads (r
 unfolding slice_call
 slice_err row bench budget f h = rw (reads_err (read_row row) f h) refl
 
-module _ (row bench : List ℕ) (budget : ℕ) (R : Row) (e : read_row row ≡ taken R) where
-  pub slice_room : (length bench ≡ bench_size → ⊥) → slice_call row bench budget ≡ refuse bench Room 0
+-- of a row R that is taken; s are the bytes of the bench before, t afterwards
+module _ (row s : List ℕ) (budget : ℕ) (R : Row) (e : read_row row ≡ taken R) where
+  not_long : (length s ≡ bench_size → ⊥) → slice_call row s budget ≡ refuse s Room 0
   unfolding slice_call
-  slice_room h = rw (e, ne_eqb (length bench) bench_size h) refl
+  not_long far = rw (e, ne_eqb (length s) bench_size far) refl
 
-  module _ (h : length bench ≡ bench_size) where
-    pub slice_form : in_form R bench ≡ false → slice_call row bench budget ≡ refuse bench WrongBench 0
+  module _ (long : length s ≡ bench_size) where
+    not_formed : in_form R s ≡ false → slice_call row s budget ≡ refuse s WrongBench 0
     unfolding slice_call
-    slice_form f = rw (e, eq-eqb (length bench) bench_size h, f) refl
+    not_formed f = rw (e, eq-eqb (length s) bench_size long, f) refl
 
-    pub slice_done : in_form R bench ≡ true → slice_call row bench budget ≡ sliced R budget (bench_of R bench)
+    formed : in_form R s ≡ true → slice_call row s budget ≡ sliced R budget (bench_of R s)
     unfolding slice_call
-    slice_done f = rw (e, eq-eqb (length bench) bench_size h, f) refl
+    formed f = rw (e, eq-eqb (length s) bench_size long, f) refl
 
--- ---- placement: the ways that end before placing
+    module _ (t : List ℕ) (x : Result Sliced Refusal) (as : SlicedAs R budget s t x) where
+      refused_as : (q : Refusal) → x ≡ Err q → slice_call row s budget ≡ refuse t q 0
+      refused_as q is = go (in_form R s) refl
+        where
+          go : (b : Bool) → in_form R s ≡ b → slice_call row s budget ≡ refuse t q 0
+          go false f = let same : q ≡ WrongBench = cc (as.wrong f) in rw (same, as.kept f) (not_formed f)
+          go true f = let m = as.moves f in cc (m.1.0)
+
+      done_as : (a : Sliced) → x ≡ Ok a → slice_call row s budget ≡ record { answer = 2 * a.steps.0 + bit a.finished; buffer = t }
+      done_as a is = go (in_form R s) refl
+        where
+          go : (b : Bool) → in_form R s ≡ b → slice_call row s budget ≡ record { answer = 2 * a.steps.0 + bit a.finished; buffer = t }
+          go false f = cc (as.wrong f)
+          go true f =
+              let m = as.moves f in
+              let same : a ≡ m.0 = cc (m.1.0) in
+              rw same (formed f ∙ sym (advanced_outcome R budget s t m.0 m.1.1))
+
+-- the same by what reading the row answers
+module _ (row s : List ℕ) (budget : ℕ) (h : Sheet) (r : Reads (read_row row) (Ok h)) where
+  pub slice_room : (length s ≡ bench_size → ⊥) → slice_call row s budget ≡ refuse s Room 0
+  slice_room far = let w = reads_ok (read_row row) h r in not_long row s budget w.0 w.1.0 far
+
+  module _ (long : length s ≡ bench_size) (t : List ℕ) where
+    pub slice_refused : (q : Refusal) → ((R : Row) → Holds h.width h.widths.now h.nets.now R → SlicedAs R budget s t (Err q))
+        → slice_call row s budget ≡ refuse t q 0
+    slice_refused q as = let w = reads_ok (read_row row) h r in refused_as row s budget w.0 w.1.0 long t (Err q) (as w.0 w.1.1) q refl
+
+    pub slice_done : (a : Sliced) → ((R : Row) → Holds h.width h.widths.now h.nets.now R → SlicedAs R budget s t (Ok a))
+        → slice_call row s budget ≡ record { answer = 2 * a.steps.0 + bit a.finished; buffer = t }
+    slice_done a as = let w = reads_ok (read_row row) h r in done_as row s budget w.0 w.1.0 long t (Ok a) (as w.0 w.1.1) a refl
+
+-- ---- placement
 
 pub placement_err : (row bench placement : List ℕ) (f : Refused) → Reads (read_row row) (Err f)
     → placement_call row bench placement ≡ refuse placement f.refusal f.place
 unfolding placement_call
 placement_err row bench placement f h = rw (reads_err (read_row row) f h) refl
 
-module _ (row bench placement : List ℕ) (R : Row) (e : read_row row ≡ taken R) where
-  pub placement_bench_room : (length bench ≡ bench_size → ⊥) → placement_call row bench placement ≡ refuse placement Room 0
+module _ (row bench before : List ℕ) (R : Row) (e : read_row row ≡ taken R) where
+  bench_off : (length bench ≡ bench_size → ⊥) → placement_call row bench before ≡ refuse before Room 0
   unfolding placement_call
-  placement_bench_room h = rw (e, ne_eqb (length bench) bench_size h) refl
+  bench_off far = rw (e, ne_eqb (length bench) bench_size far) refl
 
-  module _ (h : length bench ≡ bench_size) where
-    pub placement_room : (length placement ≡ 4 * length R.widths → ⊥) → placement_call row bench placement ≡ refuse placement Room 0
-    unfolding placement_call
-    placement_room g = rw (e, eq-eqb (length bench) bench_size h, ne_eqb (length placement) (4 * length R.widths) g) refl
+  placement_off : length bench ≡ bench_size → (length before ≡ 4 * length R.widths → ⊥) → placement_call row bench before ≡ refuse before Room 0
+  unfolding placement_call
+  placement_off long far = rw (e, eq-eqb (length bench) bench_size long, ne_eqb (length before) (4 * length R.widths) far) refl
+
+-- by what reading the row answers
+module _ (row bench before : List ℕ) (h : Sheet) (r : Reads (read_row row) (Ok h)) where
+  pub placement_bench_room : (length bench ≡ bench_size → ⊥) → placement_call row bench before ≡ refuse before Room 0
+  placement_bench_room far = let w = reads_ok (read_row row) h r in bench_off row bench before w.0 w.1.0 far
+
+  module _ (long : length bench ≡ bench_size) where
+    pub placement_room : (length before ≡ 4 * length h.widths.now → ⊥) → placement_call row bench before ≡ refuse before Room 0
+    placement_room far =
+        let w = reads_ok (read_row row) h r in
+        placement_off row bench before w.0 w.1.0 long (λ q. far (q ∙ ap (λ (ws : List ℕ). 4 * length ws) (sym w.1.1.widths_are)))
+
+    module _ (room : length before ≡ 4 * length h.widths.now) (after : List ℕ) where
+      pub placement_refused : (q : Refusal) → ((R : Row) → Holds h.width h.widths.now h.nets.now R → PlacedAs R bench before after (Err q))
+          → placement_call row bench before ≡ refuse after q 0
+      placement_refused q as =
+          let w = reads_ok (read_row row) h r in
+          let wide = room ∙ ap (λ (ws : List ℕ). 4 * length ws) w.1.1.widths_are in
+          call_refused row bench before after w.0 (Err q) w.1.0 long wide (as w.0 w.1.1) q refl
+
+      pub placement_done : (n : ℕ) → ((R : Row) → Holds h.width h.widths.now h.nets.now R → PlacedAs R bench before after (Ok n))
+          → placement_call row bench before ≡ record { answer = n; buffer = after }
+      placement_done n as =
+          let w = reads_ok (read_row row) h r in
+          let wide = room ∙ ap (λ (ws : List ℕ). 4 * length ws) w.1.1.widths_are in
+          call_placed row bench before after w.0 (Ok n) w.1.0 long wide (as w.0 w.1.1) n refl
