@@ -24,21 +24,21 @@ loop-r-init c =
     let q = h.ensures.0 in
     (q.0, first_nets _ _ h.cells _ q.0 q.1 c.requires.for_nets)
 
-pub returns-in_err-r : goal.returns-in_err-r
-returns-in_err-r c =
+pub returns-in_err-r-clause-reads : goal.returns-in_err-r-clause-reads
+returns-in_err-r-clause-reads c =
     let e = err_from_is_err_and c.from_residual-in_err-r.result c.from_residual-in_err-r.ensures.1 in
     rw (e.1, e.2)
     (reads_refused _ _ (net_refused _ _ _ _ _ _ _ _ c.loop-r.invariant.1 _ c.read_in_nets.ensures _ c.in_err-r.ensures))
 
-pub returns-in_err-ended : goal.returns-in_err-ended
-returns-in_err-ended c =
-    let k = goal.at.returns-in_err-ended c in
+pub returns-in_err-ended-clause-reads : goal.returns-in_err-ended-clause-reads
+returns-in_err-ended-clause-reads c =
+    let k = goal.at.returns-in_err-ended-clause-reads c in
     let e = err_from_is_err_and c.from_residual-in_err-ended.result c.from_residual-in_err-ended.ensures.1 in
     rw (e.1, e.2) (reads_refused _ _ (c.in_err-ended.ensures _ _ (closing k.In-En (turn k.In_ok-r))))
 
-pub returns-in-En : goal.returns-in-En
-returns-in-En c =
-    let k = goal.at.returns-in-En c in
+pub returns-in-En-clause-reads : goal.returns-in-En-clause-reads
+returns-in-En-clause-reads c =
+    let k = goal.at.returns-in-En-clause-reads c in
     let is = turn k.In_ok-r in
     reads_taken _ _ _ _ _ _ _ _ c.loop-r.invariant.1 (rw c.in-En.is at is) (c.in_ok-ended.ensures _ _ (closing k.In-En is))
     _ refl refl (rw (c.close.ensures, c.in-En.is) refl)
