@@ -1,5 +1,5 @@
 -- Laws of the calls' definitions, way by way: what each answers where the row is refused, a buffer has another length, or all is well.
-use Rattle.std.specs.Prelude.{ℕ, ◌*◌, ◌≡◌, ◌<◌, Bool, true, false, List, Result, Ok, Err}
+use Rattle.std.specs.Prelude.{ℕ, ◌+◌, ◌*◌, ◌≡◌, ◌<◌, Bool, true, false, List, Result, Ok, Err}
 use Rattle.std.proofs.Math.Path.{refl}
 use Rattle.std.proofs.Common.{ap, sym, ◌∙◌, arith}
 use Rattle.std.proofs.Math.ListN.{length}
@@ -9,8 +9,8 @@ use Rattle.rules.specs.Row.{Row}
 use Rattle.rules.specs.Reading.{taken, read_row}
 use Rattle.rules.specs.Length.{legal, overlap, overlap_from}
 use Rattle.rules.specs.Sizes.{bench_size}
-use Rattle.rules.specs.Bench.{bench_of, in_form}
-use Rattle.rules.specs.Calls.{Outcome, bit, refuse, check_call, measure_call, measured, sites_from, slice_call, sliced, placement_call}
+use Rattle.rules.specs.Bench.{bench_bytes, bench_of, fresh, in_form}
+use Rattle.rules.specs.Calls.{Outcome, bit, refuse, check_call, measure_call, measured, sites_from, fresh_call, slice_call, sliced, placement_call}
 use Rattle.rules.specs.declared.Refusal.{Refusal}
 use Rattle.rules.specs.declared.Refused.{Refused}
 use Rattle.rules.specs.declared.Refusal.TheVariants.{Room, WrongBench, Overlap}
@@ -113,6 +113,16 @@ module _ (row s : List ℕ) (h : Sheet) (r : Reads (read_row row) (Ok h)) where
         → ((ws : List ℕ) → Measurable h.nets.now ws s → n ≡ length_by (sites_from s 0 (length ws)) h.nets.now) → n ≡ (measure_call row s).answer
     measure_done past n sums = let t = reads_ok (read_row row) h r in done row s h t.0 t.1.0 t.1.1 long i found past n sums
 
+-- ---- fresh
+
+pub fresh_room : (bench : List ℕ) → (length bench ≡ bench_size → ⊥) → fresh_call bench ≡ refuse bench Room 0
+unfolding fresh_call
+fresh_room bench far = rw (ne_eqb (length bench) bench_size far) refl
+
+pub fresh_done : (bench : List ℕ) → length bench ≡ bench_size → fresh_call bench ≡ record { answer = 0; buffer = bench_bytes fresh }
+unfolding fresh_call
+fresh_done bench long = rw (eq-eqb (length bench) bench_size long) refl
+
 -- ---- slice
 
 pub slice_err : (row bench : List ℕ) (budget : ℕ) (f : Refused) → Reads (read_row row) (Err f)
@@ -135,21 +145,21 @@ module _ (row s : List ℕ) (budget : ℕ) (R : Row) (e : read_row row ≡ taken
     unfolding slice_call
     formed f = rw (e, eq-eqb (length s) bench_size long, f) refl
 
-    module _ (t : List ℕ) (x : Result Sliced Refusal) (as : SlicedAs R budget s t x) where
+    module _ (t : List ℕ) (x : Result Sliced Refusal) (told : SlicedAs R budget s t x) where
       refused_as : (q : Refusal) → x ≡ Err q → slice_call row s budget ≡ refuse t q 0
       refused_as q is = go (in_form R s) refl
         where
           go : (b : Bool) → in_form R s ≡ b → slice_call row s budget ≡ refuse t q 0
-          go false f = let same : q ≡ WrongBench = cc (as.wrong f) in rw (same, as.kept f) (not_formed f)
-          go true f = let m = as.moves f in cc (m.1.0)
+          go false f = let same : q ≡ WrongBench = cc (told.wrong f) in rw (same, told.kept f) (not_formed f)
+          go true f = let m = told.moves f in cc (m.1.0)
 
       done_as : (a : Sliced) → x ≡ Ok a → slice_call row s budget ≡ record { answer = 2 * a.steps.0 + bit a.finished; buffer = t }
       done_as a is = go (in_form R s) refl
         where
           go : (b : Bool) → in_form R s ≡ b → slice_call row s budget ≡ record { answer = 2 * a.steps.0 + bit a.finished; buffer = t }
-          go false f = cc (as.wrong f)
+          go false f = cc (told.wrong f)
           go true f =
-              let m = as.moves f in
+              let m = told.moves f in
               let same : a ≡ m.0 = cc (m.1.0) in
               rw same (formed f ∙ sym (advanced_outcome R budget s t m.0 m.1.1))
 
@@ -161,11 +171,11 @@ module _ (row s : List ℕ) (budget : ℕ) (h : Sheet) (r : Reads (read_row row)
   module _ (long : length s ≡ bench_size) (t : List ℕ) where
     pub slice_refused : (q : Refusal) → ((R : Row) → Holds h.width h.widths.now h.nets.now R → SlicedAs R budget s t (Err q))
         → slice_call row s budget ≡ refuse t q 0
-    slice_refused q as = let w = reads_ok (read_row row) h r in refused_as row s budget w.0 w.1.0 long t (Err q) (as w.0 w.1.1) q refl
+    slice_refused q told = let w = reads_ok (read_row row) h r in refused_as row s budget w.0 w.1.0 long t (Err q) (told w.0 w.1.1) q refl
 
     pub slice_done : (a : Sliced) → ((R : Row) → Holds h.width h.widths.now h.nets.now R → SlicedAs R budget s t (Ok a))
         → slice_call row s budget ≡ record { answer = 2 * a.steps.0 + bit a.finished; buffer = t }
-    slice_done a as = let w = reads_ok (read_row row) h r in done_as row s budget w.0 w.1.0 long t (Ok a) (as w.0 w.1.1) a refl
+    slice_done a told = let w = reads_ok (read_row row) h r in done_as row s budget w.0 w.1.0 long t (Ok a) (told w.0 w.1.1) a refl
 
 -- ---- placement
 
@@ -197,14 +207,14 @@ module _ (row bench before : List ℕ) (h : Sheet) (r : Reads (read_row row) (Ok
     module _ (room : length before ≡ 4 * length h.widths.now) (after : List ℕ) where
       pub placement_refused : (q : Refusal) → ((R : Row) → Holds h.width h.widths.now h.nets.now R → PlacedAs R bench before after (Err q))
           → placement_call row bench before ≡ refuse after q 0
-      placement_refused q as =
+      placement_refused q told =
           let w = reads_ok (read_row row) h r in
           let wide = room ∙ ap (λ (ws : List ℕ). 4 * length ws) w.1.1.widths_are in
-          call_refused row bench before after w.0 (Err q) w.1.0 long wide (as w.0 w.1.1) q refl
+          call_refused row bench before after w.0 (Err q) w.1.0 long wide (told w.0 w.1.1) q refl
 
       pub placement_done : (n : ℕ) → ((R : Row) → Holds h.width h.widths.now h.nets.now R → PlacedAs R bench before after (Ok n))
           → placement_call row bench before ≡ record { answer = n; buffer = after }
-      placement_done n as =
+      placement_done n told =
           let w = reads_ok (read_row row) h r in
           let wide = room ∙ ap (λ (ws : List ℕ). 4 * length ws) w.1.1.widths_are in
-          call_placed row bench before after w.0 (Ok n) w.1.0 long wide (as w.0 w.1.1) n refl
+          call_placed row bench before after w.0 (Ok n) w.1.0 long wide (told w.0 w.1.1) n refl

@@ -1,46 +1,33 @@
-use Rattle.std.proofs.Common.{rules, ◌≡◌, true, ◌+◌, ◌*◌, ◌≤◌, length, ℕ, ◌-◌, ◌<◌, ◌/◌, ◌%◌, Bool, false, nat_eq, nat_lt, List, [], ◌∷◌, ◌++◌, slice_index_or, slice_set, bit_and, bit_or, Fits, w8, w32, w64, Bor, MutBor}
-use Rattle.numbers.specs.Bytes.{u16_at}
-use Rattle.rules.specs.Sizes.{few_cells, few_nets}
-use Rattle.rules.specs.Refusals.{refusal}
-use Rattle.rules.specs.Steps.{carried_bound}
-use Rattle.rules.specs.Calls.{bit, check_call, fresh_call, slice_call, placement_call, measure_call}
-use Rattle.lugsheet.specs.Answers.{answered, Enough}
+-- `slice`: what reading the row answers is told, and so is what the slice of a row that was read answers and leaves.
+use Rattle.std.proofs.Common.{rules, refl}
+use Rattle.lugsheet.specs.CallLaws.{told_by, slice_row, slice_err, slice_room, slice_refused, slice_done}
+use Rattle.lugsheet.specs.RoomLaws.{lent_fresh}
 use Rattle.lugsheet.proofs.slice.Goals as goal
 
--- src/lib.rt:156:17
-pub returns-in_err-sheet-clause-value : goal.returns-in_err-sheet-clause-value
-returns-in_err-sheet-clause-value g c = ?
+pub returns-in_err-sheet : goal.returns-in_err-sheet
+returns-in_err-sheet g c =
+    let a = c.args in
+    let o = told_by (slice_err a.row.now a.bench.now a.budget c.in_err-sheet.field-0.0 c.in_err-sheet.ensures.reads) in
+    record { value = (let e = o.0 in search rules); bench_after = o.1 }
 
--- src/lib.rt:156:17
-pub returns-in_err-sheet-clause-bench_after : goal.returns-in_err-sheet-clause-bench_after
-returns-in_err-sheet-clause-bench_after g c = ?
+pub returns-then-bench-ne-BENCH_SIZE : goal.returns-then-bench-ne-BENCH_SIZE
+returns-then-bench-ne-BENCH_SIZE g c =
+    let a = c.args in
+    let o = told_by (slice_room a.row.now a.bench.now a.budget c.in_ok-sheet.sheet c.in_ok-sheet.ensures.reads c.if-bench-ne-BENCH_SIZE.true) in
+    record { value = (let e = o.0 in search rules); bench_after = o.1 }
 
--- src/lib.rt:158:9
-pub returns-then-bench-ne-BENCH_SIZE-clause-value :
-    goal.returns-then-bench-ne-BENCH_SIZE-clause-value
-returns-then-bench-ne-BENCH_SIZE-clause-value g c = ?
-
--- src/lib.rt:158:9
-pub returns-then-bench-ne-BENCH_SIZE-clause-bench_after :
-    goal.returns-then-bench-ne-BENCH_SIZE-clause-bench_after
-returns-then-bench-ne-BENCH_SIZE-clause-bench_after g c = ?
-
--- src/lib.rt:164:11
 pub slice-requires-clause-lent : goal.slice-requires-clause-lent
-slice-requires-clause-lent g c = ?
+slice-requires-clause-lent g c =
+    let w = c.in_ok-sheet.ensures.within in lent_fresh _ _ _ c.requires.1.0 c.requires.1.1 w.0 w.1 refl refl
 
--- src/lib.rt:145:1
-pub returns-in-Ok-clause-value : goal.returns-in-Ok-clause-value
-returns-in-Ok-clause-value g c = ?
+pub returns-in-Ok : goal.returns-in-Ok
+returns-in-Ok g c =
+    let a = c.args in
+    let o = told_by (slice_done a.row.now a.bench.now a.budget c.in_ok-sheet.sheet c.in_ok-sheet.ensures.reads c.if-bench-ne-BENCH_SIZE.false c.slice.new.bench c.in-Ok.sliced c.in-Ok.ensures) in
+    record { value = (let e = o.0 in search rules); bench_after = o.1 }
 
--- src/lib.rt:145:1
-pub returns-in-Ok-clause-bench_after : goal.returns-in-Ok-clause-bench_after
-returns-in-Ok-clause-bench_after g c = ?
-
--- src/lib.rt:145:1
-pub returns-in-Err-clause-value : goal.returns-in-Err-clause-value
-returns-in-Err-clause-value g c = ?
-
--- src/lib.rt:145:1
-pub returns-in-Err-clause-bench_after : goal.returns-in-Err-clause-bench_after
-returns-in-Err-clause-bench_after g c = ?
+pub returns-in-Err : goal.returns-in-Err
+returns-in-Err g c =
+    let a = c.args in
+    let o = told_by (slice_refused a.row.now a.bench.now a.budget c.in_ok-sheet.sheet c.in_ok-sheet.ensures.reads c.if-bench-ne-BENCH_SIZE.false c.slice.new.bench c.in-Err.refusal c.in-Err.ensures) in
+    record { value = (let e = o.0 in search rules); bench_after = o.1 }
