@@ -1,9 +1,8 @@
 -- A number of a place or of a clump is read in its list of such numbers; and a clump that is put into the list puts its numbers into theirs.
-use Rattle.std.specs.Prelude.{◌≡◌, ℕ, ◌<◌, List, length, get_or, set}
-use Rattle.std.proofs.Common.{refl, sym}
+use Rattle.std.specs.Prelude.{◌≡◌, ℕ, List, length, get_or, set}
+use Rattle.std.proofs.Common.{refl}
 use Rattle.std.proofs.Math.ListN.{get_or-map, length-map}
 use Rattle.std.proofs.lemmas.List.{map-set}
-use Rattle.std.proofs.Math.Seq.{map-set_same}
 use Rattle.layout.specs.declared.Place.{Place}
 use Rattle.layout.specs.Columns.{starts_of, bounds_of, needs_of}
 use Rattle.changes.specs.declared.Clump.{Clump}

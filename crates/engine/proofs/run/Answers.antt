@@ -1,5 +1,5 @@
 -- `run`: the test says of the bench that the run so far leaves whether that is finished, and a step more is a run of one step more.
-use Rattle.std.proofs.Common.{◌≡◌, ◌+◌, length, sym, ◌∙◌, arith}
+use Rattle.std.proofs.Common.{◌≡◌, sym, ◌∙◌, arith}
 use Rattle.rules.specs.Row.{Row}
 use Rattle.rules.specs.Steps.{Bench as Meant, finished, run}
 use Rattle.slopes.specs.Runs.{run_zero, taken_zero, run_past, taken_past}

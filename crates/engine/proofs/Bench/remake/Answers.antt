@@ -1,11 +1,10 @@
 -- `remake`: what the next clump asks holds by the bench that was loaded, and its heap is one more; the clump in hand is the last.
 use Rattle.std.proofs.Common.{◌≡◌, ◌+◌, ◌<◌, ◌≤◌, length, get_or, sym, refl, ◌∙◌, arith}
 use Rattle.rules.specs.Sizes.{most_cells}
-use Rattle.changes.specs.Fills.{Filled, Outside}
 use Rattle.changes.specs.FillLaws.{filled_few}
 use Rattle.changes.specs.declared.Clump.{Clump}
 use Rattle.engine.specs.Laid.{seen}
-use Rattle.engine.proofs.ColumnLaws.{no_place, no_clump, starts_length, start_read, bound_read}
+use Rattle.engine.proofs.ColumnLaws.{no_clump, starts_length, start_read, bound_read}
 use Rattle.engine.proofs.RemakeLaws.{Remade, remade_none, few_settled, NextAsks, next_asks, clump_more, hand_makes, remade_without, remade_with}
 use Rattle.engine.proofs.Bench.remake.Goals.{In-loop-k, After-from-end}
 use Rattle.engine.proofs.Bench.remake.Goals as goal

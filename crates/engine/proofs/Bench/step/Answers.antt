@@ -1,9 +1,9 @@
 -- `step`: what each part asks holds of the row and the bench that the lists stand for, and opening, joining and settling end by their step's law.
-use Rattle.std.proofs.Common.{ℕ, ◌≡◌, ◌+◌, ◌-◌, ◌≤◌, ◌<◌, List, length, get_or, arith, refl, sym, ◌∙◌}
+use Rattle.std.proofs.Common.{ℕ, ◌≡◌, ◌+◌, ◌-◌, ◌≤◌, ◌<◌, List, length, get_or, arith, refl, ◌∙◌}
 use Rattle.rules.specs.Row.{Row}
 use Rattle.rules.specs.Steps.{Bench as Meant}
 use Rattle.changes.specs.Fills.{Outside}
-use Rattle.engine.specs.Laid.{Layout, seen, Laid}
+use Rattle.engine.specs.Laid.{seen, Laid}
 use Rattle.engine.specs.Stands.{lists_of, Stands}
 use Rattle.engine.specs.Taken.{with_hand, kept_next, Seeks, FindsAs}
 use Rattle.engine.specs.declared.Next.{Next}
@@ -35,12 +35,6 @@ offset_bounds-row-self c = let h = rooms (goal.at.offset_bounds-row-self c).Else
 
 pub bounds-row-self : goal.bounds-row-self
 bounds-row-self c = let h = rooms (goal.at.bounds-row-self c).Else-self in omega arith
-
-pub offset_bounds-row-self-2 : goal.offset_bounds-row-self-2
-offset_bounds-row-self-2 c = let h = rooms (goal.at.offset_bounds-row-self-2 c).Else-self in omega arith
-
-pub bounds-row-self-2 : goal.bounds-row-self-2
-bounds-row-self-2 c = let h = rooms (goal.at.bounds-row-self-2 c).Else-self in omega arith
 
 pub overflow_sub-want : goal.overflow_sub-want
 overflow_sub-want c =
