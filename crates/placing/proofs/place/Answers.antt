@@ -1,5 +1,5 @@
 -- `place`: a bench that is not in form or not finished is answered so at once; else the clumps are put, and what they leave is measured.
-use Rattle.std.proofs.Common.{◌≡◌, true, ◌×◌, sym, ◌∙◌, length, length-take-le, take, arith, ◌+◌}
+use Rattle.std.proofs.Common.{◌≡◌, ◌≤◌, true, sym, ◌∙◌, length, length-take-le, take, arith, ◌+◌}
 use Rattle.rules.specs.Row.{Row}
 use Rattle.rules.specs.Steps.{finished}
 use Rattle.rules.specs.Bench.{bench_of, in_form}
@@ -16,7 +16,7 @@ use Rattle.placing.proofs.place.Goals as goal
 -- the bench is in form, and it is asked whether it is finished
 module _ (c : After-is_finished) (R : Row) (held : Holds c.args.sheet.width c.args.sheet.widths.now c.args.sheet.nets.now R) where
   many : length (starts_of c.lay_starts.new.places) ≡ length c.args.sheet.widths.now + 1
-  many = starts_length c.lay_starts.new.places ∙ c.lay_starts.ensures.starts.1 ∙ length-take-le _ c.args.places.now c.requires.bench_len.1.0
+  many = starts_length c.lay_starts.new.places ∙ c.lay_starts.ensures.starts.1 ∙ length-take-le _ c.args.places.now c.requires.bench_len.1
 
   loaded : (in_form R c.args.bench.now ≡ true) × Tells c.args.bench.now (cells_of c.load.new.clumps) (edges_of c.load.new.clumps) c.in-Some.saved
   loaded = c.in-Some.ensures.loaded R (held_told _ _ _ R held _ many c.lay_starts.ensures.starts.0)
@@ -26,6 +26,9 @@ module _ (c : After-is_finished) (R : Row) (held : Holds c.args.sheet.width c.ar
 
   in_list : length c.args.sheet.widths.now ≤ length c.load.new.clumps
   in_list = omega (arith, c.load.ensures.clumps_len_unchanged, c.requires.bench_len)
+
+  fit : c.in-Some.saved.clumps ≤ length c.load.new.clumps
+  fit = clumps_fit _ _ _ R held _ _ _ loaded.0 loaded.1 in_list
 
   -- past that it is finished
   module _ (yes : c.is_finished.result ≡ true) where
@@ -43,14 +46,11 @@ returns-then-not-is_finished c R held =
     placed_unfinished R c.args.bench.now c.args.placement.now (loaded i R held).0 (sym (asked i R held) ∙ c.if-not-is_finished.true)
 
 pub slice_bounds-put_clumps-end : goal.slice_bounds-put_clumps-end
-slice_bounds-put_clumps-end c =
-    let i = (goal.at.slice_bounds-put_clumps-end c).After-is_finished in
-    let R = c.requires.holds.0 in
-    let held = c.requires.holds.1 in
-    clumps_fit _ _ _ R held _ _ _ (loaded i R held).0 (loaded i R held).1 (in_list i R held)
+slice_bounds-put_clumps-end c = fit (goal.at.slice_bounds-put_clumps-end c).After-is_finished c.requires.holds.0 c.requires.holds.1
 
 pub slice_bounds-put_clumps-end-2 : goal.slice_bounds-put_clumps-end-2
-slice_bounds-put_clumps-end-2 c = ?
+slice_bounds-put_clumps-end-2 c =
+    sym (length-take-le _ _ (fit (goal.at.slice_bounds-put_clumps-end-2 c).After-is_finished c.requires.holds.0 c.requires.holds.1))
 
 pub put_clumps-requires : goal.put_clumps-requires
 put_clumps-requires c =
