@@ -81,7 +81,7 @@ module _ (cs : List Clump) where
         map-set (λ (c : Clump). c.size) cs k c,
         map-set (λ (c : Clump). c.sum) cs k c,
       )
-          refl
+      refl
 
   pub lists_settled : (e : Bench) (starts keys : List ℕ)
       → lists_of (set cs e.settled (settled_clump e starts)) keys ≡ settled_lists e starts (lists_of cs keys)

@@ -11,15 +11,15 @@ returns-then-self-want-clause-finds_as c =
 pub returns-then-want-kept-clause-finds_as : goal.returns-then-want-kept-clause-finds_as
 returns-then-want-kept-clause-finds_as c =
     λ cs end weighed filled near far sure.
-    found_past cs _ end _ _ _ _ _ _ c.args.self.hand.cap near c.if-limit-last.false
-    (c.in-Passed.ensures.descended cs end weighed filled (walks _ _ _ c.if-limit-last.false far)) c.if-last-start-gt0.true c.if-want-kept.true
+    found_past cs _ end _ _ _ _ _ _ c.args.self.hand.cap near (omega arith)
+    (c.in-Passed.ensures.descended cs end weighed filled (walks _ _ _ (omega arith) far)) (omega arith) (omega arith)
 
 pub returns-else-last-start-gt0-clause-finds_as : goal.returns-else-last-start-gt0-clause-finds_as
 returns-else-last-start-gt0-clause-finds_as c =
     λ cs end weighed filled near far sure.
-    found_stays cs _ end _ _ _ _ _ _ c.args.self.hand.cap near c.if-limit-last.false
-    (c.in-Passed.ensures.descended cs end weighed filled (walks _ _ _ c.if-limit-last.false far))
-    (elim c.else-last-start-gt0.branch
-        [ else-last-start-gt0-via-then-last-start-gt0+else-want-kept w ↦ inr (omega arith)
-        | else-last-start-gt0-via-else-last-start-gt0 w ↦ inl (omega arith)
-        ])
+    found_stays cs _ end _ _ _ _ _ _ c.args.self.hand.cap near (omega arith)
+    (c.in-Passed.ensures.descended cs end weighed filled (walks _ _ _ (omega arith) far))
+    (elim c.else-last-start-gt0.branch [
+      | else-last-start-gt0-via-then-last-start-gt0+else-want-kept w ↦ inr (omega arith)
+      | else-last-start-gt0-via-else-last-start-gt0 w ↦ inl (omega arith)
+    ])
