@@ -2,7 +2,7 @@
 -- positions of the whole bench stand in the placement.
 use Rattle.std.specs.Prelude.{◌≡◌, true, List, [], ◌∷◌, ◌++◌, reverse, length, get_or, take}
 use Rattle.std.proofs.Math.Path.{refl, sym}
-use Rattle.std.proofs.Common.{ap, ◌∙◌, add-zero, add_assoc, length-take, ext_get_or, get_or-take, get_or-drop}
+use Rattle.std.proofs.Common.{ap, ◌∙◌, add-zero, add_assoc}
 use Prim.Native.Nat.{ℕ, zero, suc, ◌+◌, ◌-◌, ◌*◌, ◌≤◌, ◌<◌}
 use native.Mathlib.Omega.{arith}
 use Rattle.std.proofs.Math.ListN.{drop, length-append, length-drop}
@@ -21,7 +21,6 @@ use Rattle.benches.specs.ApartLaws.{apart_stand}
 use Rattle.benches.specs.MadeLaws.{clump_cells, clump_edge, clump_width}
 use Rattle.benches.specs.PositionLaws.{total_part, packed_length, positions_more}
 use Rattle.benches.specs.StoreLaws.{put32}
-use Rattle.placing.specs.Puts.{Ready}
 use Rattle.placing.specs.Sites.{over, over_more, over_over, over_all}
 
 -- ---- cells side by side

@@ -1,9 +1,7 @@
 -- `put_clumps` meets its contract: the clump at hand is the bench's, and it is put after those left of it.
-use Rattle.std.proofs.Common.{ℕ, ◌+◌, ◌-◌, ◌≤◌, ◌<◌, ◌≡◌, List, length, drop, ap, sym, ◌∙◌, arith, add-one, slice_index_or}
+use Rattle.std.proofs.Common.{ℕ, ◌+◌, ◌-◌, ◌≤◌, ◌<◌, ◌≡◌, List, length, ap, sym, ◌∙◌, arith, add-one, slice_index_or}
 use Rattle.rules.specs.Row.{Row}
 use Rattle.rules.specs.Bench.{saved_clumps, saved_cells, saved_edge, cells_before}
-use Rattle.rules.specs.Calls.{packed}
-use Rattle.changes.specs.declared.Clump.{Clump}
 use Rattle.changes.specs.Columns.{cells_of, edges_of}
 use Rattle.benches.specs.ColumnLaws.{cells_length, cells_at, edges_at}
 use Rattle.placing.specs.Sites.{over, over_none}
@@ -20,23 +18,23 @@ module _
     (c : After-from) (R : Row) (s : List ℕ)
     (r : Ready R s (cells_of c.args.clumps.now) (edges_of c.args.clumps.now) c.args.widths.now c.args.placement.now)
   where
-  at_hand : c.loop-clump.clump-index < saved_clumps s
-  at_hand = omega (arith, r.clumps_are, cells_length c.args.clumps.now)
+    at_hand : c.loop-clump.clump-index < saved_clumps s
+    at_hand = omega (arith, r.clumps_are, cells_length c.args.clumps.now)
 
-  begins : c.loop-clump.first ≡ cells_before s c.loop-clump.clump-index
-  begins = (c.loop-clump.invariant R s r).0
+    begins : c.loop-clump.first ≡ cells_before s c.loop-clump.clump-index
+    begins = (c.loop-clump.invariant R s r).0
 
-  has : c.from.result ≡ saved_cells s c.loop-clump.clump-index
-  has = c.from.ensures ∙ sym (cells_at c.args.clumps.now c.loop-clump.clump-index) ∙ r.cells_are c.loop-clump.clump-index at_hand
+    has : c.from.result ≡ saved_cells s c.loop-clump.clump-index
+    has = c.from.ensures ∙ sym (cells_at c.args.clumps.now c.loop-clump.clump-index) ∙ r.cells_are c.loop-clump.clump-index at_hand
 
-  abbrev edge : ℕ
-  edge = (slice_index_or c.args.clumps.now c.loop-clump.clump-index (record { cells = 0; edge = 0; size = 0; sum = 0 })).edge
+    abbrev edge : ℕ
+    edge = (slice_index_or c.args.clumps.now c.loop-clump.clump-index (record { cells = 0; edge = 0; size = 0; sum = 0 })).edge
 
-  stands : edge ≡ saved_edge s c.loop-clump.clump-index
-  stands = sym (edges_at c.args.clumps.now c.loop-clump.clump-index) ∙ r.edges_are c.loop-clump.clump-index at_hand
+    stands : edge ≡ saved_edge s c.loop-clump.clump-index
+    stands = sym (edges_at c.args.clumps.now c.loop-clump.clump-index) ∙ r.edges_are c.loop-clump.clump-index at_hand
 
-  inside : c.loop-clump.first + c.from.result ≤ length R.widths
-  inside = omega (arith, begins, has, clump_inside R s r.form r.ends c.loop-clump.clump-index at_hand)
+    inside : c.loop-clump.first + c.from.result ≤ length R.widths
+    inside = omega (arith, begins, has, clump_inside R s r.form r.ends c.loop-clump.clump-index at_hand)
 
 pub overflow_add-end : goal.overflow_add-end
 overflow_add-end c =
