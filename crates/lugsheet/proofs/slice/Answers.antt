@@ -1,6 +1,6 @@
 -- `slice`: what reading the row answers is told, and so is what the slice of a row that was read answers and leaves.
 use Rattle.std.proofs.Common.{rules, refl}
-use Rattle.lugsheet.specs.CallLaws.{told_by, slice_row, slice_err, slice_room, slice_refused, slice_done}
+use Rattle.lugsheet.specs.CallLaws.{told_by, slice_err, slice_room, slice_refused, slice_done}
 use Rattle.lugsheet.specs.RoomLaws.{lent_fresh}
 use Rattle.lugsheet.proofs.slice.Goals as goal
 
@@ -29,5 +29,5 @@ returns-in-Ok g c =
 pub returns-in-Err : goal.returns-in-Err
 returns-in-Err g c =
     let a = c.args in
-    let o = told_by (slice_refused a.row.now a.bench.now a.budget c.in_ok-sheet.sheet c.in_ok-sheet.ensures.reads c.if-bench-ne-BENCH_SIZE.false c.slice.new.bench c.in-Err.refusal c.in-Err.ensures) in
+    let o = told_by (slice_refused a.row.now a.bench.now a.budget c.in_ok-sheet.sheet c.in_ok-sheet.ensures.reads c.if-bench-ne-BENCH_SIZE.false c.slice.new.bench c.in-Err.wrong c.in-Err.ensures) in
     record { value = (let e = o.0 in search rules); bench_after = o.1 }
