@@ -13,24 +13,26 @@ use Rattle.placing.specs.PlacedLaws.{held_told, finished_told, clumps_fit, ready
 use Rattle.placing.proofs.place.Goals.{After-is_finished}
 use Rattle.placing.proofs.place.Goals as goal
 
--- the bench is in form, and it is asked whether it is finished
+-- past the first test the bench is in form, and the second asks whether it is finished
 module _ (c : After-is_finished) (R : Row) (held : Holds c.args.sheet.width c.args.sheet.widths.now c.args.sheet.nets.now R) where
   many : length (starts_of c.lay_starts.new.places) ≡ length c.args.sheet.widths.now + 1
   many = starts_length c.lay_starts.new.places ∙ c.lay_starts.ensures.starts.1 ∙ length-take-le _ c.args.places.now c.requires.bench_len.1
 
+  -- the bench, told for the row
   loaded : (in_form R c.args.bench.now ≡ true) × Tells c.args.bench.now (cells_of c.load.new.clumps) (edges_of c.load.new.clumps) c.in-Some.saved
   loaded = c.in-Some.ensures.loaded R (held_told _ _ _ R held _ many c.lay_starts.ensures.starts.0)
 
   asked : c.is_finished.result ≡ finished R (bench_of R c.args.bench.now)
   asked = c.is_finished.ensures ∙ finished_told _ _ _ R held _ _ _ loaded.0 loaded.1
 
+  -- its clumps lie in the list lent for them
   in_list : length c.args.sheet.widths.now ≤ length c.load.new.clumps
   in_list = omega (arith, c.load.ensures.clumps_len_unchanged, c.requires.bench_len)
 
   fit : c.in-Some.saved.clumps ≤ length c.load.new.clumps
   fit = clumps_fit _ _ _ R held _ _ _ loaded.0 loaded.1 in_list
 
-  -- past that it is finished
+  -- past the second it is finished
   module _ (yes : c.is_finished.result ≡ true) where
     ends : finished R (bench_of R c.args.bench.now) ≡ true
     ends = sym asked ∙ yes
