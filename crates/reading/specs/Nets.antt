@@ -143,9 +143,9 @@ module _ (s ws : List ℕ) (sum : ℕ) (p : Progress) (t : List ℕ) (d : Option
   at_nets = record { started = i.started; all_cells = i.all_cells }
 
   -- what was read is the record that stands next, or a refusal of the row
-  module _ (read : Result Record Refusal) (told : (x : Reading) → Shows p ws x → AtNets x → length ws ≡ p.cells → read ≡ record_at x t) where
+  module _ (read : Result Record Refusal) (told : (x : Reading) → Shows p ws x → AtNets x → read ≡ record_at x t) where
     stands_next : read ≡ record_at c t
-    stands_next = told c i.underway.shows at_nets (omega (arith, ap length i.exact, i.all_cells, i.underway.shows.cells))
+    stands_next = told c i.underway.shows at_nets
 
     pub net_read : (r : Record) → Ok r ≡ placed p.place read → record_at c t ≡ Ok r
     net_read r e = sym stands_next ∙ placed_ok p.place read r e
