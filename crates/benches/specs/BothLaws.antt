@@ -10,6 +10,14 @@ pub both : (a b : Bool) → a ≡ true → b ≡ true → (a && b) ≡ true
 both true b h g = g
 both false b h g = h
 
+-- and fail where one does
+pub first_fails : (a b : Bool) → a ≡ false → (a && b) ≡ false
+first_fails a b h = rw h
+
+pub second_fails : (a b : Bool) → b ≡ false → (a && b) ≡ false
+second_fails true b h = h
+second_fails false b h = refl
+
 -- a test that can't hold fails
 pub fails : (t : Bool) → (t ≡ true → ⊥) → t ≡ false
 fails true h = absurd (h refl)

@@ -103,17 +103,17 @@ end_before R s (suc k) all = omega (arith, clump_width R s k (all k (omega arith
 
 -- ---- for the row that the numbers are taken from
 
-module _ (R : Row) (s : List ℕ) (width count : ℕ) (ends : List ℕ) (t : Told R width count ends) where
+module _ (R : Row) (s : List ℕ) (width : ℕ) (ends : List ℕ) (t : Told R width ends) where
   -- clump k's three sums, where its cells are some of the row's
-  sum_first : (k : ℕ) → cells_before s k ≤ count → get_or ends (first_before s k) 0 ≡ total (take (first_before s k) R.widths)
+  sum_first : (k : ℕ) → cells_before s k ≤ length R.widths → get_or ends (first_before s k) 0 ≡ total (take (first_before s k) R.widths)
   sum_first k h = t.sums (first_before s k) (omega (arith, first_before_lem s k))
 
-  sum_cells : (k : ℕ) → cells_before s k ≤ count → get_or ends (cells_before s k) 0 ≡ total (take (cells_before s k) R.widths)
+  sum_cells : (k : ℕ) → cells_before s k ≤ length R.widths → get_or ends (cells_before s k) 0 ≡ total (take (cells_before s k) R.widths)
   sum_cells k h = t.sums (cells_before s k) h
 
   -- the tests of a settled clump say where it stands
-  module _ (k : ℕ) (some : (j : ℕ) → j ≤ k → 1 ≤ saved_cells s j) (inside : cells_before s (suc k) ≤ count) where
-    within_row : cells_before s k ≤ count
+  module _ (k : ℕ) (some : (j : ℕ) → j ≤ k → 1 ≤ saved_cells s j) (inside : cells_before s (suc k) ≤ length R.widths) where
+    within_row : cells_before s k ≤ length R.widths
     within_row = omega (arith, cells_rise s (suc k) k (omega arith))
 
     abbrev after_test : Bool
@@ -161,7 +161,7 @@ module _ (R : Row) (s : List ℕ) (width count : ℕ) (ends : List ℕ) (t : Tol
         ⊎_elim
         (λ (lt : k < settled_of s).
         rw (lt-ltb k (settled_of s) lt)
-        (stands_tested k (λ j g. f.have_cells j (omega arith)) (omega (arith, cells_rise s (saved_clumps s) (suc k) l, f.add_up, f.within, t.many))
+        (stands_tested k (λ j g. f.have_cells j (omega arith)) (omega (arith, cells_rise s (saved_clumps s) (suc k) l, f.add_up, f.within))
         (apart_stand R s R.width (settled_of s) f.stand_apart k lt)))
         (λ (le : settled_of s ≤ k).
         let one : saved_hand s ≡ 1 = omega (arith, f.hand_bit) in
@@ -177,7 +177,7 @@ module _ (R : Row) (s : List ℕ) (width count : ℕ) (ends : List ℕ) (t : Tol
 
   -- and one that passes them is in form
   module _
-      (h : Head count s)
+      (h : Head (length R.widths) s)
       (zeros : all_zero (drop (head_size + part_size * saved_clumps s) s) ≡ true)
       (parts : parts_fit ends s width (saved_opened s) (settled_of s) (saved_clumps s) ≡ true)
       (sum : cells_before s (saved_clumps s) ≡ saved_opened s)
@@ -214,7 +214,7 @@ module _ (R : Row) (s : List ℕ) (width count : ℕ) (ends : List ℕ) (t : Tol
             mark_n = h.mark_n;
             few = h.few;
             zeros = zeros;
-            within = omega (arith, h.within, t.many);
+            within = h.within;
             have_cells = has_cells;
             add_up = sum;
             hand_bit = h.hand_bit;

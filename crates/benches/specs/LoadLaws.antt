@@ -1,5 +1,5 @@
 -- What `load` answers: not in form where the head, the zero bytes or a clump does not fit, and else all that the bytes say.
-use Rattle.std.specs.Prelude.{◌≡◌, ℕ, ◌+◌, ◌*◌, ◌≤◌, ◌<◌, List, Bool, true, false, cond, ◌&&◌, length, drop, eqb}
+use Rattle.std.specs.Prelude.{◌≡◌, refl, ℕ, ◌+◌, ◌*◌, ◌≤◌, ◌<◌, List, Bool, true, false, cond, ◌&&◌, length, drop, eqb, Some, None}
 use Rattle.std.proofs.Common.{sym, ◌∙◌, subst, ⊎_elim, arith, eq-or-lt_of_le, eq-eqb, ne_eqb, eqb-true}
 use Rattle.rules.specs.Sizes.{head_size, part_size}
 use Rattle.rules.specs.Row.{Row}
@@ -19,54 +19,52 @@ hand_is hand h =
     (λ (lt : hand < 1). rw (ne_eqb hand 1 (omega arith)) (omega arith))
     (eq-or-lt_of_le h)
 
-module _ (R : Row) (s cells edges : List ℕ) (r : Saved) (no : r.formed ≡ false) where
-  -- not in form, and said so
-  refused : (Formed R s → ⊥) → Loaded R s cells edges r
-  refused never =
-      let out : in_form R s ≡ false = fails (in_form R s) (λ h. never (formed R s h)) in
-      record { form = no ∙ sym out; tells = λ h. absurd (clash (in_form R s) h out) }
+module _ (R : Row) (s : List ℕ) (head : Saved) (read : head ≡ head_of s) (count : ℕ) (many : count ≡ length R.widths) (cells edges : List ℕ) where
+  -- nothing is told of bytes that are not in form
+  refused : (Formed R s → ⊥) → Loaded R s cells edges None
+  refused never = fails (in_form R s) (λ h. never (formed R s h))
 
-  pub refused_head : (count : ℕ) → count ≡ length R.widths → head_fits count s ≡ false → Loaded R s cells edges r
-  refused_head count e h = refused (λ f. clash (head_fits count s) (rw e (head_fits_lem s f)) h)
+  pub refused_head : head_fits count s ≡ false → Loaded R s cells edges None
+  refused_head h = refused (λ f. clash (head_fits count s) (rw many (head_fits_lem s f)) h)
 
-  pub refused_zeros : all_zero (drop (head_size + part_size * saved_clumps s) s) ≡ false → Loaded R s cells edges r
-  refused_zeros h = refused (λ f. clash _ f.zeros h)
+  pub refused_zeros : all_zero (drop (head_size + part_size * head.clumps) s) ≡ false → Loaded R s cells edges None
+  refused_zeros h = refused (λ f. clash _ (rw read f.zeros) h)
 
-module _
-    (R : Row) (s : List ℕ) (width count : ℕ) (ends cells edges : List ℕ)
-    (t : Told R width count ends)
-    (h : Head count s)
-    (zeros : all_zero (drop (head_size + part_size * saved_clumps s) s) ≡ true)
-  where
-    abbrev clumps_fit : Bool
-    clumps_fit = parts_fit ends s width (saved_opened s) (settled_of s) (saved_clumps s)
+  module _
+      (width : ℕ) (ends : List ℕ)
+      (t : Told R width ends)
+      (h : Head count s)
+      (zeros : all_zero (drop (head_size + part_size * head.clumps) s) ≡ true)
+    where
+      abbrev clumps_fit : Bool
+      clumps_fit = parts_fit ends s width (saved_opened s) (settled_of s) (saved_clumps s)
 
-    abbrev cells_add : Bool
-    cells_add = eqb (cells_before s (saved_clumps s)) (saved_opened s)
+      abbrev cells_add : Bool
+      cells_add = eqb (cells_before s (saved_clumps s)) (saved_opened s)
 
-    tests_are : (clumps_fit && cells_add) ≡ in_form R s
-    tests_are =
-        same_test (clumps_fit && cells_add) (in_form R s)
-        (λ both_true.
-        let two = both_hold clumps_fit cells_add both_true in
-        in_form_lem R s (formed_by_tests R s width count ends t h zeros two.0 (eqb-true _ _ two.1)))
-        (λ yes_form.
-        let f = formed R s yes_form in
-        both clumps_fit cells_add (parts_fit_lem R s width count ends t f) (eq-eqb _ _ f.add_up))
+      tests_are : (clumps_fit && cells_add) ≡ in_form R s
+      tests_are =
+          same_test (clumps_fit && cells_add) (in_form R s)
+          (λ both_true.
+          let two = both_hold clumps_fit cells_add both_true in
+          in_form_lem R s (formed_by_tests R s width ends t (rw many at h) (rw read at zeros) two.0 (eqb-true _ _ two.1)))
+          (λ yes_form.
+          let f = formed R s yes_form in
+          both clumps_fit cells_add (parts_fit_lem R s width ends t f) (eq-eqb _ _ f.add_up))
 
-    pub loaded : (head r : Saved) → head ≡ head_of s → Parted head s width ends cells edges r → Loaded R s cells edges r
-    loaded head r e p =
-        let q : Parted (head_of s) s width ends cells edges r = subst (λ (x : Saved). Parted x s width ends cells edges r) e p in
-        let same : r.formed ≡ in_form R s = q.form ∙ rw (hand_is (saved_hand s) h.hand_bit) tests_are in
-        record {
-          form = same;
-          tells = λ yes_form.
-              record {
-                opened = q.opened;
-                held = q.held;
-                clumps = q.clumps;
-                carried = rw q.carried;
-                cells_are = q.cells_are (same ∙ yes_form);
-                edges_are = q.edges_are (same ∙ yes_form);
-              };
-        }
+      module _ (fits : Bool) (p : Parted head s width ends cells edges fits) where
+        parted : Parted (head_of s) s width ends cells edges fits
+        parted = subst (λ (x : Saved). Parted x s width ends cells edges fits) read p
+
+        parted_is : fits ≡ in_form R s
+        parted_is = parted.form ∙ rw (hand_is (saved_hand s) h.hand_bit) tests_are
+
+        pub refused_parts : fits ≡ false → Loaded R s cells edges None
+        refused_parts e = sym parted_is ∙ e
+
+        pub loaded : fits ≡ true → Loaded R s cells edges (Some head)
+        loaded e =
+            rw read (
+              sym parted_is ∙ e,
+              record { opened = refl; held = refl; clumps = refl; carried = refl; cells_are = parted.cells_are e; edges_are = parted.edges_are e },
+            )

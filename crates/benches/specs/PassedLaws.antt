@@ -1,12 +1,12 @@
 -- The clumps read so far: what holds after k of them, at the start, after one more, where one does not fit, and at the end.
-use Rattle.std.specs.Prelude.{◌≡◌, refl, ℕ, suc, ◌+◌, ◌-◌, ◌≤◌, ◌<◌, List, Bool, true, false, cond, ◌&&◌, length, get_or, set, ltb, leb, eqb}
+use Rattle.std.specs.Prelude.{◌≡◌, refl, ℕ, suc, ◌+◌, ◌≤◌, ◌<◌, List, Bool, true, false, ◌&&◌, length, get_or, set, ltb, leb, eqb}
 use Rattle.std.proofs.Common.{sym, ◌∙◌, arith, get_or-set_same, get_or-set_other, below_more}
 use Rattle.std.proofs.Math.Numerals.{add-one}
 use borrow.Author.Tests.{ltb-true, leb-true}
 use Rattle.rules.specs.Bench.{saved_cells, saved_edge, cells_before}
 use Rattle.benches.specs.declared.Saved.{Saved}
 use Rattle.benches.specs.Fits.{first_before, edge_before, ends_by, cells_fit, edge_fits, part_fits, parts_fit}
-use Rattle.benches.specs.Saved.{Parted}
+use Rattle.benches.specs.Saved.{settled_of, Parted}
 use Rattle.benches.specs.BothLaws.{both_hold, both, fails, clash}
 use Rattle.benches.specs.FitsLaws.{fits_each}
 
@@ -52,19 +52,19 @@ module _ (s : List ℕ) (width : ℕ) (ends : List ℕ) (head : Saved) (settled 
 
   module _ {cells edges : List ℕ} {last left first k : ℕ} (p : Passed s width ends head settled cells edges last left first k) where
     -- the next clump's test, by the numbers at hand
-    module _ (count edge : ℕ) (c : count ≡ saved_cells s k) (e : edge ≡ saved_edge s k) where
+    module _ (count edge next : ℕ) (c : count ≡ saved_cells s k) (e : edge ≡ saved_edge s k) (n : next ≡ first + count) where
       abbrev edge_here : Bool
       edge_here =
           edge_fits (ltb k settled) edge
           (ends_by left edge (get_or ends last 0) (get_or ends first 0))
-          (ends_by edge width (get_or ends first 0) (get_or ends (first + count) 0))
+          (ends_by edge width (get_or ends first 0) (get_or ends next 0))
 
       abbrev here : Bool
-      here = cells_fit first (first + count) head.opened && edge_here
+      here = cells_fit first next head.opened && edge_here
 
-      next_is : first + count ≡ cells_before s (suc k)
+      next_is : next ≡ cells_before s (suc k)
       unfolding cells_before
-      next_is = rw (p.first_is, c)
+      next_is = n ∙ rw (p.first_is, c)
 
       here_is : here ≡ part_fits ends s width head.opened settled k
       unfolding part_fits
@@ -73,13 +73,13 @@ module _ (s : List ℕ) (width : ℕ) (ends : List ℕ) (head : Saved) (settled 
       -- it fits: one clump more
       pub passed_more :
           k < head.clumps → head.opened ≤ length cells → head.opened ≤ length edges → here ≡ true →
-          Passed s width ends head settled (set cells k count) (set edges k edge) first edge (first + count) (k + 1)
+          Passed s width ends head settled (set cells k count) (set edges k edge) first edge next (k + 1)
       unfolding parts_fit first_before edge_before
       passed_more l room_cells room_edges fits =
-          let two = both_hold (cells_fit first (first + count) head.opened) edge_here fits in
-          let next = both_hold (ltb first (first + count)) (leb (first + count) head.opened) two.0 in
-          let some : first < first + count = ltb-true first (first + count) next.0 in
-          let within : first + count ≤ head.opened = leb-true (first + count) head.opened next.1 in
+          let two = both_hold (cells_fit first next head.opened) edge_here fits in
+          let inside = both_hold (ltb first next) (leb next head.opened) two.0 in
+          let some : first < next = ltb-true first next inside.0 in
+          let within : next ≤ head.opened = leb-true next head.opened inside.1 in
           record {
             count = omega arith;
             few = within;
@@ -94,41 +94,23 @@ module _ (s : List ℕ) (width : ℕ) (ends : List ℕ) (head : Saved) (settled 
           }
 
       -- it does not fit: not in form
-      pub passed_stop :
-          settled ≡ head.clumps - cond head.held 1 0 → k < head.clumps → head.formed ≡ false → here ≡ false → Parted head s width ends cells edges head
-      passed_stop all l not_yet stops =
+      pub passed_stop : settled ≡ settled_of head → k < head.clumps → here ≡ false → Parted head s width ends cells edges false
+      passed_stop all l stops =
           let none : parts_fit ends s width head.opened settled head.clumps ≡ false =
           fails _ (λ h. clash (part_fits ends s width head.opened settled k) (fits_each ends s width head.opened settled head.clumps h k l) (sym here_is ∙ stops)) in
           record {
-            form = not_yet ∙ rw (← all, none);
-            opened = refl;
-            held = refl;
-            clumps = refl;
-            carried = refl;
-            cells_are = λ h. absurd (clash head.formed h not_yet);
-            edges_are = λ h. absurd (clash head.formed h not_yet);
+            form = rw (← all, none);
+            cells_are = λ h. absurd (clash false h refl);
+            edges_are = λ h. absurd (clash false h refl);
           }
 
     -- all fit: in form where their cells add to those opened
-    pub passed_all :
-        settled ≡ head.clumps - cond head.held 1 0 → k ≡ head.clumps →
-        Parted head s width ends cells edges
-        (record {
-          formed = eqb first head.opened;
-          opened = head.opened;
-          held = head.held;
-          clumps = head.clumps;
-          carried = head.carried;
-        })
+    pub passed_all : settled ≡ settled_of head → k ≡ head.clumps → Parted head s width ends cells edges (eqb first head.opened)
     passed_all all e =
         let full : parts_fit ends s width head.opened settled head.clumps ≡ true = rw e at p.fit in
         let sum : first ≡ cells_before s head.clumps = rw e at p.first_is in
         record {
           form = rw (← all, full, sum);
-          opened = refl;
-          held = refl;
-          clumps = refl;
-          carried = refl;
           cells_are = λ h i l. p.cells_are i (omega arith);
           edges_are = λ h i l. p.edges_are i (omega arith);
         }

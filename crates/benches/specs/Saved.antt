@@ -1,5 +1,5 @@
 -- What the functions of the bench promise: what is loaded from saved bytes, and what has to be handed over to be written.
-use Rattle.std.specs.Prelude.{◌≡◌, ℕ, zero, suc, ◌-◌, ◌≤◌, ◌<◌, List, [], ◌∷◌, ◌++◌, Bool, true, false, cond, ◌&&◌, length, get_or, take, eqb, Option, Some, None}
+use Rattle.std.specs.Prelude.{◌≡◌, ℕ, zero, suc, ◌+◌, ◌-◌, ◌≤◌, ◌<◌, List, [], ◌∷◌, ◌++◌, Bool, true, false, cond, ◌&&◌, length, get_or, take, eqb, Option, Some, None}
 use Rattle.numbers.specs.Bytes.{u16_bytes, u32_bytes}
 use Rattle.rules.specs.Row.{Row}
 use Rattle.rules.specs.Reading.{total}

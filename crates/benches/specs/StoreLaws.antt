@@ -100,16 +100,20 @@ module _ (cells edges head tail : List ℕ) where
   unfolding stored parts_to
   stored_none = rw append-nil
 
+  -- the numbers of one clump more are written
   pub stored_more :
-      (k : ℕ) → length head ≡ head_size →
-      put32 (head_size + part_size * k + 2) (get_or edges k 0) (put16 (head_size + part_size * k) (get_or cells k 0) (stored cells edges head tail k))
-      ≡ stored cells edges head tail (k + 1)
+      (k x y : ℕ) (before between after : List ℕ) → length head ≡ head_size → before ≡ stored cells edges head tail k →
+      get_or cells k 0 ≡ x → get_or edges k 0 ≡ y →
+      between ≡ put16 (head_size + part_size * k) x before → after ≡ put32 (head_size + part_size * k + 2) y between →
+      after ≡ stored cells edges head tail (k + 1)
   unfolding stored parts_to
-  stored_more k h =
+  stored_more k x y before between after h is x_is y_is first second =
       let front : length (head ++ parts_to cells edges k) ≡ head_size + part_size * k = omega (arith, length-append head (parts_to cells edges k), parts_to_length cells edges k) in
       let e : part_size * k + 6 ≡ part_size * (k + 1) = omega arith in
-      part_put (head ++ parts_to cells edges k) (drop (part_size * k) tail) (get_or cells k 0) (get_or edges k 0) (head_size + part_size * k) front
-      ∙ rw (drop-drop 6 (part_size * k) tail, e, add-one) (simp append_assoc)
+      second
+      ∙ ap (λ (b : List ℕ). put32 (head_size + part_size * k + 2) y b) (first ∙ ap (λ (b : List ℕ). put16 (head_size + part_size * k) x b) is)
+      ∙ part_put (head ++ parts_to cells edges k) (drop (part_size * k) tail) x y (head_size + part_size * k) front
+      ∙ rw (drop-drop 6 (part_size * k) tail, e, add-one, x_is, y_is) (simp append_assoc)
 
 -- ---- the bench
 

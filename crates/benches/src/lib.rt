@@ -2,7 +2,7 @@
 // Any 1,547 bytes may come in: every number is read as it stands, and no place past the buffer or past the lists is touched.
 #![tactic(auto)]
 
-ghost use Rattle.std.specs.Prelude.{◌≡◌, ◌++◌, cond, ◌-◌, ◌*◌, ◌+◌, ◌≤◌, ◌<◌, length, drop, replicate, take, map};
+ghost use Rattle.std.specs.Prelude.{◌≡◌, ◌++◌, cond, ◌-◌, ◌*◌, ◌+◌, ◌≤◌, ◌<◌, length, drop, replicate};
 ghost use Rattle.rules.specs.Sizes.{most_cells, part_size, bench_size};
 ghost use Rattle.rules.specs.Row.{Row};
 ghost use Rattle.rules.specs.Steps.{Bench};
@@ -69,6 +69,7 @@ fn counts_fit(count: usize, opened: usize, hand: u8, clumps: usize, carried: u32
         && carried <= rules::MOST_CARRIED
 }
 
+#[tactic(auto, unfolding(crate::specs::Fits::head_fits))]
 fn head_fits(bench: &[u8], count: usize) -> bool
     requires { length bench.now ≡ bench_size }
     ensures { result ≡ head_fits count bench.now }
@@ -89,7 +90,7 @@ fn zero_from(bench: &[u8], from: usize) -> bool
     ensures { result ≡ all_zero (drop from bench.now) }
 {
     let mut most = 0;
-    for byte in &bench[from..] {
+    for &byte in &bench[from..] {
         most = byte.max(most);
     }
     most == 0
@@ -142,8 +143,9 @@ fn parts_fit(head: Saved, bench: &[u8], width: u32, places: &[Place], clumps: &m
         if !edge_fits(k < settled, edge, after, within) {
             return false;
         }
-        clumps[k].cells = cells;
-        clumps[k].edge = edge;
+        let clump = &mut clumps[k];
+        clump.cells = cells;
+        clump.edge = edge;
         last = first;
         left = edge;
         first = next;

@@ -10,6 +10,7 @@ use mathlib.Core.List.Memᴰ.{not-nil}
 use mathlib.Core.List.Memᴰ.{tail as there}
 use mathlib.Core.List.{List, [], ◌∷◌, map, Memᴰ as In}
 use native.Mathlib.Omega.{arith}
+use Rattle.std.proofs.lemmas.List.{ext_get_or, get_or-map, length-map}
 use Rattle.numbers.specs.SignedLaws.{abs_parts, neg_above, neg_below}
 use Rattle.numbers.specs.Sums.{sum_to, sum_each}
 use Rattle.rules.specs.Sizes.{widest, heaviest, most_cells, most_nets}
@@ -20,13 +21,12 @@ use Rattle.rules.specs.Steps.{moved}
 use Rattle.slopes.specs.Tally.{tally_of, tally_append, tally_moved}
 use Rattle.slopes.specs.Joined.{changes_of}
 use Rattle.slopes.specs.Frame.{packed, packed_suc, packed_most, framed, framed_none, framed_suc}
-use Rattle.slopes.specs.Stretches.{stretch_of, stretch_none, stretch_add, stretch_sum}
+use Rattle.slopes.specs.Stretches.{change_at, stretch_of, stretch_none, stretch_add, stretch_sum}
 use Rattle.nets.specs.declared.Net.{Net}
-use Rattle.nets.specs.Summary.{summary}
+use Rattle.nets.specs.Summary.{summary, nothing}
 use Rattle.nets.specs.Span.{Tied}
 use Rattle.nets.specs.SpanLaws.{tied_kept}
-use Rattle.nets.specs.NetLists.{NetLists, Room, net_at, net_among, nets_map}
-use Rattle.layout.specs.Kept.{left_kept, right_kept, kept_on, kept_in, Ranged, Ready, Nets}
+use Rattle.layout.specs.Kept.{left_kept, right_kept, kept_on, Ranged, Ready, Nets}
 use Rattle.layout.specs.KeptLaws.{kept_changes, changes_kept, sum_most}
 use Rattle.layout.specs.Shared.{Held, Needed, Places}
 use Rattle.layout.specs.Laid.{Laid}
@@ -35,12 +35,16 @@ use Rattle.layout.specs.LaidLaws.{held_next, held_rises}
 -- ---- the nets that were read
 
 -- told net by net, with any net of the row where there is none
-pub nets_of_row : {R : Row} {ls : NetLists} {nets cells : ℕ} (t : Listed)
-    → cells ≡ length R.widths → nets ≡ length R.nets
-    → ((k : ℕ) → k < length R.nets → net_at ls k ≡ summary R.width (get_or R.nets k t))
-    → Nets R ls nets cells
-nets_of_row {R} {ls} {nets} {cells} t c n each =
-    record { cells_are = c; nets_are = n; kept = rw n (nets_map ls (summary R.width) R.nets t each) }
+pub nets_of_row : {R : Row} {ns : List Net} {cells : ℕ} (t : Listed)
+    → cells ≡ length R.widths → length ns ≡ length R.nets
+    → ((k : ℕ) → k < length R.nets → get_or ns k nothing ≡ summary R.width (get_or R.nets k t))
+    → Nets R ns cells
+nets_of_row {R} {ns} t c n each = record {
+  cells_are = c;
+  kept =
+      ext_get_or nothing ns (map (summary R.width) R.nets) (n ∙ sym (length-map R.nets (summary R.width)))
+      (λ k l. let h : k < length R.nets = omega arith in each k h ∙ sym (get_or-map (summary R.width) R.nets k t nothing h));
+}
 
 -- within their ranges where the row is
 kept_ranged : (W : ℕ) (ws : List ℕ) (t : Listed) → W ≤ widest → ((i : ℕ) → get_or ws i 0 ≤ widest) → Tied ws t → t.weight ≤ heaviest
@@ -64,33 +68,37 @@ each_mapped P f (t ∷ ts) h n m =
     ⊎_elim (λ (e : n ≡ f t). subst P (sym e) (h t (here refl)))
     (λ (q : In n (map f ts)). each_mapped P f ts (λ u r. h u (there r)) n q) (cases_cons m)
 
-pub ready_of_row : {R : Row} {ls : NetLists} {nets cells : ℕ} → Nets R ls nets cells → Room ls nets
+net_among : (ns : List Net) (k : ℕ) → k < length ns → In (get_or ns k nothing) ns
+net_among [] k h = absurd (omega arith)
+net_among (n ∷ ns) zero h = here refl
+net_among (n ∷ ns) (suc k) h = there (net_among ns k (omega arith))
+
+pub ready_of_row : {R : Row} {ns : List Net} {cells : ℕ} → Nets R ns cells
     → R.width ≤ widest → length R.widths ≤ most_cells → length R.nets ≤ most_nets → ((i : ℕ) → get_or R.widths i 0 ≤ widest)
     → ((t : Listed) → In t R.nets → Tied R.widths t × (t.weight ≤ heaviest))
-    → Ready ls nets cells
-ready_of_row {R} {ls} {nets} {cells} n room w c m g tied =
+    → Ready ns cells
+ready_of_row {R} {ns} {cells} n w c m g tied =
     record {
-      few_nets = omega (arith, n.nets_are);
+      few_nets = omega (arith, ap length n.kept, length-map R.nets (summary R.width));
       few_cells = omega (arith, n.cells_are);
-      room = room;
       each = λ k l.
-          subst (λ (m : ℕ). Ranged m (net_at ls k)) (sym n.cells_are)
+          subst (λ (m : ℕ). Ranged m (get_or ns k nothing)) (sym n.cells_are)
           (each_mapped (Ranged (length R.widths)) (summary R.width) R.nets
-          (λ t r. kept_ranged R.width R.widths t w g (tied t r).0 (tied t r).1) (net_at ls k)
-          (subst (λ (l : List Net). In (net_at ls k) l) n.kept (net_among ls nets k l)));
+          (λ t r. kept_ranged R.width R.widths t w g (tied t r).0 (tied t r).1) (get_or ns k nothing)
+          (subst (λ (l : List Net). In (get_or ns k nothing) l) n.kept (net_among ns k l)));
     }
 
 -- what the code says of the nets it says of the row
-module _ {R : Row} {ls : NetLists} {nets cells : ℕ} (n : Nets R ls nets cells) where
-  pub held_of_row : {held : List ℕ} → Held (kept_in ls nets) cells held → Held (changes_of R) cells held
+module _ {R : Row} {ns : List Net} {cells : ℕ} (n : Nets R ns cells) where
+  pub held_of_row : {held : List ℕ} → Held (λ i. kept_on i ns) cells held → Held (changes_of R) cells held
   held_of_row {held} h = subst (λ (D : ℕ → List Change). Held D cells held) (changes_kept n) h
 
-  pub needed_of_row : {needs : List ℕ} → Needed (kept_in ls nets) cells needs → Needed (changes_of R) cells needs
+  pub needed_of_row : {needs : List ℕ} → Needed (λ i. kept_on i ns) cells needs → Needed (changes_of R) cells needs
   needed_of_row {needs} h = subst (λ (D : ℕ → List Change). Needed D cells needs) (changes_kept n) h
 
-  pub laid_of_row : {places held : List ℕ} {xs ws : List ℤ} → Laid (kept_in ls nets) cells places held xs ws
-      → Laid (changes_of R) cells places held xs ws
-  laid_of_row {places} {held} {xs} {ws} h = subst (λ (D : ℕ → List Change). Laid D cells places held xs ws) (changes_kept n) h
+  pub laid_of_row : {places held : List ℕ} {cs : List Change} → Laid (λ i. kept_on i ns) cells places held cs
+      → Laid (changes_of R) cells places held cs
+  laid_of_row {places} {held} {cs} h = subst (λ (D : ℕ → List Change). Laid D cells places held cs) (changes_kept n) h
 
 -- ---- the places of its cells
 
@@ -159,15 +167,15 @@ row_light R h m =
 
 -- ---- the stretch of a run of cells, from cell a up to cell b
 
-module _ (R : Row) {cells : ℕ} {places held : List ℕ} {xs ws : List ℤ} (h : Held (changes_of R) cells held) (p : Places R.widths cells places)
-    (laid : Laid (changes_of R) cells places held xs ws) where
+module _ (R : Row) {cells : ℕ} {places held : List ℕ} {cs : List Change} (h : Held (changes_of R) cells held) (p : Places R.widths cells places)
+    (laid : Laid (changes_of R) cells places held cs) where
   abbrev at : ℕ → ℕ
   at i = get_or held i 0
 
-  run_part_from : (a n : ℕ) → a + n ≤ cells → stretch_of xs ws (at a) (at (a + n) - at a) ≡ framed R a n
+  run_part_from : (a n : ℕ) → a + n ≤ cells → stretch_of cs (at a) (at (a + n) - at a) ≡ framed R a n
   run_part_from a zero g =
       let e : at (a + zero) - at a ≡ 0 = let q : a + zero ≡ a = omega arith in rw q (omega arith) in
-      rw (e, framed_none R a) (stretch_none xs ws (at a))
+      rw (e, framed_none R a) (stretch_none cs (at a))
   run_part_from a (suc n) g =
       let q : a + suc n ≡ suc (a + n) = omega arith in
       let rises = held_rises h a (a + n) (omega arith) (omega arith) in
@@ -177,7 +185,7 @@ module _ (R : Row) {cells : ℕ} {places held : List ℕ} {xs ws : List ℤ} (h 
       rw (
         q,
         e,
-        stretch_add xs ws (at a) (at (a + n) - at a) (length (changes_of R (a + n))),
+        stretch_add cs (at a) (at (a + n) - at a) (length (changes_of R (a + n))),
         f,
         run_part_from a n (omega arith),
         framed_suc R a n,
@@ -187,18 +195,18 @@ module _ (R : Row) {cells : ℕ} {places held : List ℕ} {xs ws : List ℤ} (h 
       refl
 
   -- it holds their changes in the one frame
-  pub run_part : (a b : ℕ) → a ≤ b → b ≤ cells → stretch_of xs ws (get_or held a 0) (get_or held b 0 - get_or held a 0) ≡ framed R a (b - a)
+  pub run_part : (a b : ℕ) → a ≤ b → b ≤ cells → stretch_of cs (get_or held a 0) (get_or held b 0 - get_or held a 0) ≡ framed R a (b - a)
   run_part a b l g =
       let n : a + (b - a) ≡ b = omega arith in
-      subst (λ (m : ℕ). stretch_of xs ws (at a) (at m - at a) ≡ framed R a (b - a)) n (run_part_from a (b - a) (omega arith))
+      subst (λ (m : ℕ). stretch_of cs (at a) (at m - at a) ≡ framed R a (b - a)) n (run_part_from a (b - a) (omega arith))
 
   -- which are light
   pub run_weighed : ((t : Listed) → In t R.nets → t.weight ≤ heaviest) → (a b : ℕ) → a ≤ b → b ≤ cells
-      → (k : ℕ) → get_or held a 0 ≤ k → k < get_or held b 0 → nat_abs (get_or ws k (pos 0)) ≤ heaviest
+      → (k : ℕ) → get_or held a 0 ≤ k → k < get_or held b 0 → nat_abs (change_at cs k).slope ≤ heaviest
   unfolding excess
   run_weighed w a b l g k q r =
       let z : tally_of (λ c. excess c.slope) (framed R a (b - a)) ≡ 0 = omega (arith, framed_sum R excess a (b - a), row_light R w (a + (b - a))) in
       let e : at a + (k - at a) ≡ k = omega arith in
-      let s : sum_to (λ i. excess (get_or ws (at a + i) (pos 0))) (at b - at a) ≡ 0 =
-      stretch_sum xs ws (at a) (λ c. excess c.slope) (at b - at a) ∙ ap (tally_of (λ c. excess c.slope)) (run_part a b l g) ∙ z in
-      omega (arith, rw e at (sum_each (λ i. excess (get_or ws (at a + i) (pos 0))) (at b - at a) (k - at a) (omega arith)))
+      let s : sum_to (λ i. excess (change_at cs (at a + i)).slope) (at b - at a) ≡ 0 =
+      stretch_sum cs (at a) (λ c. excess c.slope) (at b - at a) ∙ ap (tally_of (λ c. excess c.slope)) (run_part a b l g) ∙ z in
+      omega (arith, rw e at (sum_each (λ i. excess (change_at cs (at a + i)).slope) (at b - at a) (k - at a) (omega arith)))

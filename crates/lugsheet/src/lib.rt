@@ -8,8 +8,7 @@ ghost use Rattle.rules.specs.Sizes.{few_cells, few_nets};
 ghost use Rattle.rules.specs.Refusals.{refusal};
 ghost use Rattle.rules.specs.Steps.{carried_bound};
 ghost use Rattle.rules.specs.Calls.{bit, check_call, fresh_call, slice_call, placement_call, measure_call};
-ghost use Rattle.reading.specs.Reads.{Roomy};
-ghost use Rattle.lugsheet.specs.Answers.{answered};
+ghost use Rattle.lugsheet.specs.Answers.{answered, Enough};
 
 use changes::Clump;
 use layout::Place;
@@ -65,7 +64,7 @@ fn is_small(row: &[u8]) -> bool
 // ---- check
 
 fn check<const CELLS: usize, const NETS: usize>(row: &[u8]) -> Result<u64, Refused>
-    requires { Roomy row.now CELLS NETS }
+    requires { Enough row.now CELLS NETS }
     ensures { answered result ≡ (check_call row.now).answer }
 {
     let mut widths = [0; CELLS];
@@ -91,7 +90,7 @@ fn measure<const CELLS: usize, const NETS: usize>(
     row: &[u8],
     placement: &[u8],
 ) -> Result<u64, Refused>
-    requires { Roomy row.now CELLS NETS }
+    requires { Enough row.now CELLS NETS }
     ensures { answered result ≡ (measure_call row.now placement.now).answer }
 {
     let mut widths = [0; CELLS];
@@ -148,7 +147,7 @@ fn slice<const CELLS: usize, const NETS: usize, const ENDS: usize, const CHANGES
     bench: &mut [u8],
     budget: u32,
 ) -> Result<u64, Refused>
-    requires { Roomy row.now CELLS NETS × (ENDS ≡ CELLS + 1) × (CHANGES ≡ 2 * NETS) }
+    requires { Enough row.now CELLS NETS × (ENDS ≡ CELLS + 1) × (CHANGES ≡ 2 * NETS) }
     ensures value { answered result ≡ (slice_call row.now bench.old budget).answer }
     ensures bench_after { bench.new ≡ (slice_call row.now bench.old budget).buffer }
 {
@@ -172,7 +171,7 @@ fn slice<const CELLS: usize, const NETS: usize, const ENDS: usize, const CHANGES
         &mut keys,
     ) {
         Ok(sliced) => Ok(sliced_answer(sliced)),
-        Err(refusal) => unmet(refusal),
+        Err(wrong) => unmet(wrong),
     }
 }
 
@@ -195,14 +194,17 @@ fn placement_of<const CELLS: usize, const NETS: usize, const ENDS: usize>(
     bench: &[u8],
     placement: &mut [u8],
 ) -> Result<u64, Refused>
-    requires { Roomy row.now CELLS NETS × (ENDS ≡ CELLS + 1) }
+    requires { Enough row.now CELLS NETS × (ENDS ≡ CELLS + 1) }
     ensures value { answered result ≡ (placement_call row.now bench.now placement.old).answer }
     ensures placement_after { placement.new ≡ (placement_call row.now bench.now placement.old).buffer }
 {
     let mut widths = [0; CELLS];
     let mut nets = [Net::default(); NETS];
     let sheet = read_row(row, &mut widths, &mut nets)?;
-    if bench.len() != BENCH_SIZE || placement.len() != 4 * sheet.widths.len() {
+    if bench.len() != BENCH_SIZE {
+        return unmet(Refusal::Room);
+    }
+    if placement.len() != 4 * sheet.widths.len() {
         return unmet(Refusal::Room);
     }
     let mut places = [Place::default(); ENDS];

@@ -1,20 +1,22 @@
 -- The netlength net by net: where a net's two end pins are read, what one net more adds, and that the sum stays small.
 use Prim.Native.Nat.{ℕ, zero, suc, ◌+◌, ◌*◌, ◌≤◌, ◌<◌}
 use native.Mathlib.Omega.{arith}
-use Rattle.std.specs.Prelude.{◌≡◌, List, length, get_or}
+use Rattle.std.specs.Prelude.{◌≡◌, List, length, get_or, take}
 use Rattle.std.proofs.Math.Path.{refl}
+use Rattle.std.proofs.Math.Seq.{take-suc}
 use Rattle.std.proofs.Common.{sym}
 use Rattle.numbers.specs.Bytes.{u32_at}
 use Rattle.rules.specs.Sizes.{widest, heaviest}
 use Rattle.rules.specs.Calls.{sites_from}
-use Rattle.nets.specs.NetLists.{NetLists, net_at, nets_to, nets_zero, nets_suc}
+use Rattle.nets.specs.declared.Net.{Net}
+use Rattle.nets.specs.Summary.{nothing}
 use Rattle.nets.specs.Span.{Near, span_at, span_by, length_by}
 use Rattle.nets.specs.SpanLaws.{kept_near}
 use Rattle.nets.specs.LengthLaws.{length_more, share_small}
 use Rattle.measuring.specs.Measures.{Measurable}
 use Rattle.measuring.specs.Overlaps.{sites_at}
 
-module _ (ls : NetLists) (nets : ℕ) (ws s : List ℕ) (M : Measurable ls nets ws s) where
+module _ (ns : List Net) (ws s : List ℕ) (M : Measurable ns ws s) where
   -- the placement, as sites
   sites : List ℕ
   sites = sites_from s 0 (length ws)
@@ -29,40 +31,40 @@ module _ (ls : NetLists) (nets : ℕ) (ws s : List ℕ) (M : Measurable ls nets 
       let e : 4 * i ≡ 0 + 4 * i = omega arith in
       rw e (sym (sites_at s 0 (length ws) i h))
 
-  module _ (k : ℕ) (h : k < nets) where
-    pub left_inside : 4 * (net_at ls k).left + 4 ≤ length s
-    left_inside = site_inside (net_at ls k).left (M.kept k h).left_cell
+  module _ (k : ℕ) (h : k < length ns) where
+    -- the k-th net
+    abbrev net : Net
+    net = get_or ns k nothing
 
-    pub right_inside : 4 * (net_at ls k).right + 4 ≤ length s
-    right_inside = site_inside (net_at ls k).right (M.kept k h).right_cell
+    pub left_inside : 4 * net.left + 4 ≤ length s
+    left_inside = site_inside net.left (M.kept k h).left_cell
 
-    pub ends_near : Near (net_at ls k) (u32_at s (4 * (net_at ls k).left)) (u32_at s (4 * (net_at ls k).right))
+    pub right_inside : 4 * net.right + 4 ≤ length s
+    right_inside = site_inside net.right (M.kept k h).right_cell
+
+    pub ends_near : Near net (u32_at s (4 * net.left)) (u32_at s (4 * net.right))
     unfolding sites
     ends_near =
-        rw (site_read (net_at ls k).left (M.kept k h).left_cell, site_read (net_at ls k).right (M.kept k h).right_cell)
-        (kept_near M.limit ws sites (net_at ls k) M.near M.fits (M.kept k h))
+        rw (site_read net.left (M.kept k h).left_cell, site_read net.right (M.kept k h).right_cell)
+        (kept_near M.limit ws sites net M.near M.fits (M.kept k h))
 
-    span_read : span_at (net_at ls k) (u32_at s (4 * (net_at ls k).left)) (u32_at s (4 * (net_at ls k).right)) ≡ span_by sites (net_at ls k)
+    span_read : span_at net (u32_at s (4 * net.left)) (u32_at s (4 * net.right)) ≡ span_by sites net
     unfolding span_by
-    span_read =
-        rw (site_read (net_at ls k).left (M.kept k h).left_cell, site_read (net_at ls k).right (M.kept k h).right_cell) refl
+    span_read = rw (site_read net.left (M.kept k h).left_cell, site_read net.right (M.kept k h).right_cell) refl
 
     -- one net more
     pub length_next :
-        length_by (sites_from s 0 (length ws)) (nets_to ls (suc k))
-        ≡ length_by (sites_from s 0 (length ws)) (nets_to ls k)
-        + (net_at ls k).weight.0 * span_at (net_at ls k) (u32_at s (4 * (net_at ls k).left)) (u32_at s (4 * (net_at ls k).right))
+        length_by (sites_from s 0 (length ws)) (take (suc k) ns)
+        ≡ length_by (sites_from s 0 (length ws)) (take k ns) + net.weight.0 * span_at net (u32_at s (4 * net.left)) (u32_at s (4 * net.right))
     unfolding sites
-    length_next = rw (nets_suc ls k, span_read) (length_more sites (nets_to ls k) (net_at ls k))
+    length_next = rw (take-suc ns k nothing h, span_read) (length_more sites (take k ns) net)
 
-    pub share_read_small :
-        (net_at ls k).weight.0 * span_at (net_at ls k) (u32_at s (4 * (net_at ls k).left)) (u32_at s (4 * (net_at ls k).right))
-        ≤ heaviest * (3 * widest)
+    pub share_read_small : net.weight.0 * span_at net (u32_at s (4 * net.left)) (u32_at s (4 * net.right)) ≤ heaviest * (3 * widest)
     unfolding sites
-    share_read_small = rw span_read (share_small M.limit ws sites (net_at ls k) M.near M.fits (M.kept k h) (M.light k h))
+    share_read_small = rw span_read (share_small M.limit ws sites net M.near M.fits (M.kept k h) (M.light k h))
 
   -- so the sum fits a u64 with much room
-  pub so_far_small : (k : ℕ) → k ≤ nets → length_by (sites_from s 0 (length ws)) (nets_to ls k) ≤ k * (heaviest * (3 * widest))
+  pub so_far_small : (k : ℕ) → k ≤ length ns → length_by (sites_from s 0 (length ws)) (take k ns) ≤ k * (heaviest * (3 * widest))
   unfolding length_by
-  so_far_small zero h = rw (nets_zero ls) (omega arith)
+  so_far_small zero h = omega arith
   so_far_small (suc k) h = omega (arith, length_next k h, share_read_small k h, so_far_small k (omega arith))

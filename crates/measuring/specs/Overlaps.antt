@@ -33,18 +33,19 @@ module _ (W : ℕ) (ws s : List ℕ) where
   unfolding overlap_at
   overlap_start = let e : length ws - 0 ≡ length ws = omega arith in rw e refl
 
-  pub overlap_none : (end : ℕ) → overlap_at (length ws) end ≡ length ws
+  pub overlap_none : (i end : ℕ) → i ≡ length ws → overlap_at i end ≡ i
   unfolding overlap_at overlap_from
-  overlap_none end = rw (drop-length ws) refl
+  overlap_none i end e = rw (e, drop-length ws) refl
 
   -- one cell
   overlap_cell : (i end : ℕ) → i < length ws
-      → overlap_at i end ≡ cond (ltb (u32_at s (4 * i)) end || ltb W (u32_at s (4 * i) + get_or ws i 0)) i (overlap_at (suc i) (u32_at s (4 * i) + get_or ws i 0))
+      → overlap_at i end ≡ cond (ltb (u32_at s (4 * i)) end || ltb W (u32_at s (4 * i) + get_or ws i 0)) i (overlap_at (i + 1) (u32_at s (4 * i) + get_or ws i 0))
   unfolding overlap_at overlap_from
   overlap_cell i end h =
       let e : length ws - i ≡ suc (length ws - suc i) = omega arith in
       let f : 4 * suc i ≡ 4 * i + 4 = omega arith in
-      rw (drop-cons ws i 0 h, e, f, sites_more s (4 * i) (length ws - suc i)) refl
+      let n : i + 1 ≡ suc i = omega arith in
+      rw (n, drop-cons ws i 0 h, e, f, sites_more s (4 * i) (length ws - suc i)) refl
 
   pub overlap_early : (i end : ℕ) → i < length ws → u32_at s (4 * i) < end → overlap_at i end ≡ i
   overlap_early i end h g = overlap_cell i end h ∙ rw (lt-ltb (u32_at s (4 * i)) end g) refl
@@ -53,5 +54,8 @@ module _ (W : ℕ) (ws s : List ℕ) where
   overlap_late i end h f g = overlap_cell i end h ∙ rw (le-ltb (u32_at s (4 * i)) end f, lt-ltb W (u32_at s (4 * i) + get_or ws i 0) g) refl
 
   pub overlap_on : (i end : ℕ) → i < length ws → end ≤ u32_at s (4 * i) → u32_at s (4 * i) + get_or ws i 0 ≤ W
-      → overlap_at i end ≡ overlap_at (suc i) (u32_at s (4 * i) + get_or ws i 0)
+      → overlap_at i end ≡ overlap_at (i + 1) (u32_at s (4 * i) + get_or ws i 0)
   overlap_on i end h f g = overlap_cell i end h ∙ rw (le-ltb (u32_at s (4 * i)) end f, le-ltb W (u32_at s (4 * i) + get_or ws i 0) g) refl
+
+-- what the search rests on
+pub ruleset cell_by_cell = (overlap_start, overlap_none, overlap_early, overlap_late, overlap_on)

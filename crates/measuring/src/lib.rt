@@ -12,6 +12,7 @@ ghost use Rattle.measuring.specs.Measures.{Measurable};
 use nets::Net;
 
 // The first cell that starts before its left neighbour's end or ends past W, if there is one.
+#[tactic(auto, using(crate::specs::Overlaps::cell_by_cell))]
 pub fn first_overlap(widths: &[u32], width: u32, placement: &[u8]) -> Option<usize>
     requires { (length widths.now ≤ most_cells) × (4 * length widths.now ≤ length placement.now) }
     ensures first { unwrap_or result (length widths.now) ≡ overlap_from width 0 0 widths.now (sites_from placement.now 0 (length widths.now)) }
@@ -32,6 +33,7 @@ pub fn first_overlap(widths: &[u32], width: u32, placement: &[u8]) -> Option<usi
 }
 
 // The netlength: the sum of weight times span.
+#[tactic(auto, using(crate::specs::Lengths::length_next), unfolding(nets::specs::Span::length_by))]
 pub fn netlength(nets: &[Net], placement: &[u8]) -> u64
     requires { (ws : List ℕ) × Measurable nets.now ws placement.now }
     ensures { (ws : List ℕ) → Measurable nets.now ws placement.now → result ≡ length_by (sites_from placement.now 0 (length ws)) nets.now }

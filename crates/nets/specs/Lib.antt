@@ -1,5 +1,4 @@
--- What is kept of a net, and what one pin more changes in it (Summary, Turns); its span and netlength by that (Span); the lists
--- in which it is kept (NetLists).
+-- What is kept of a net, and what one pin more changes in it (Summary, Turns); its span and netlength by that (Span).
 -- The other files are laws: of one pin more (Counted, Lists, TurnLaws), of spans (Sides, Apart, Members, SpanLaws, LengthLaws),
 -- and of placements in which cells overlap (OverlapLaws).
 pub mod Summary

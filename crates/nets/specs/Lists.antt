@@ -1,12 +1,13 @@
 -- Lists with one element more at their end: the least and the greatest of them, and the fixed pins and cells that pins name.
 -- TurnLaws puts these together.
-use Rattle.std.specs.Prelude.{ℕ, min, max, ◌≡◌, refl, List, [], ◌∷◌, ◌++◌, true, false, cond, ℤ}
+use Rattle.std.specs.Prelude.{ℕ, min, max, ◌≡◌, refl, List, [], ◌∷◌, ◌++◌, true, false, ℤ, Some}
 use Rattle.std.proofs.Common.{ap, arith}
 use Rattle.rules.specs.Row.{Pin, fixed, on}
 use Rattle.rules.specs.Records.{has_pin}
 use Rattle.rules.specs.Length.{smaller, larger, leftmost, rightmost}
 use Rattle.rules.specs.Changes.{fixed_of, cells_of, least, greatest, left_fixed, right_fixed}
-use Rattle.nets.specs.Summary.{some}
+use Rattle.nets.specs.Summary.{fixed_ends}
+use Rattle.nets.specs.Turns.{fixed_more}
 
 -- ---- the least and the greatest
 
@@ -30,20 +31,11 @@ unfolding rightmost
 rightmost_more x [] y = refl
 rightmost_more x (z ∷ zs) y = rightmost_more (larger x z) zs y
 
--- fl and fr of one fixed pin more
-pub left_fixed_more : (W : ℕ) (xs : List ℤ) (y : ℤ) → left_fixed W (xs ++ (y ∷ [])) ≡ cond (some xs) (smaller (left_fixed W xs) y) y
-unfolding left_fixed leftmost
-left_fixed_more W [] y = refl
-left_fixed_more W (x ∷ xs) y = leftmost_more x xs y
-
-pub right_fixed_more : (xs : List ℤ) (y : ℤ) → right_fixed (xs ++ (y ∷ [])) ≡ cond (some xs) (larger (right_fixed xs) y) y
-unfolding right_fixed rightmost
-right_fixed_more [] y = refl
-right_fixed_more (x ∷ xs) y = rightmost_more x xs y
-
-pub some_more : (xs : List ℤ) (y : ℤ) → some (xs ++ (y ∷ [])) ≡ true
-some_more [] y = refl
-some_more (x ∷ xs) y = refl
+-- what is kept of the fixed pins, with one more
+pub fixed_ends_more : (xs : List ℤ) (y : ℤ) → fixed_ends (xs ++ (y ∷ [])) ≡ Some (fixed_more (fixed_ends xs) y)
+unfolding fixed_ends left_fixed right_fixed leftmost rightmost
+fixed_ends_more [] y = refl
+fixed_ends_more (x ∷ xs) y = rw (leftmost_more x xs y, rightmost_more x xs y)
 
 -- ---- pins
 

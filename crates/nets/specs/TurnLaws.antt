@@ -1,26 +1,31 @@
--- One pin more, in what is kept of a net as in its list: the summary of the longer list is what the turn makes of the summary.
--- Which offsets count comes from Counted alone.
-use Rattle.std.specs.Prelude.{ℕ, ◌<◌, ◌≡◌, refl, List, [], ◌∷◌, ◌++◌, Bool, true, false, cond, ◌&&◌, ℤ, ltb}
-use Rattle.std.proofs.Common.{ap, ◌∙◌, arith, ltb-true, ltb-false, ne_eqb}
-use Rattle.rules.specs.Row.{Pin, fixed, on, Net as Listed, counted}
+-- One pin more, in what is kept of a net as in its list: the draft of the longer list is what the turn makes of the draft.
+-- And what a draft becomes when it is closed. Which offsets count comes from Counted alone.
+use Rattle.std.specs.Prelude.{ℕ, ◌≡◌, refl, List, [], ◌∷◌, ◌++◌, Bool, true, false, cond, ℤ, pos, leb, Some, None, unwrap_or}
+use Rattle.std.proofs.Common.{ap, ◌∙◌, arith, leb-true, leb-false, ne_eqb}
+use Rattle.std.proofs.Math.Nat.{max-zero}
+use Rattle.rules.specs.Row.{Pin, fixed, on, Net as Listed, replaced, counted}
 use Rattle.rules.specs.Records.{has_pin}
-use Rattle.rules.specs.Changes.{cells_of, offsets_on, least, greatest, left_cell, right_cell, left_offset, right_offset}
+use Rattle.rules.specs.Changes.{cells_of, offsets_on, fixed_of, least, greatest, left_cell, right_cell, left_offset, right_offset, left_fixed, right_fixed}
+use Rattle.nets.specs.declared.Ends.{Ends}
 use Rattle.nets.specs.declared.Draft.{Draft}
-use Rattle.nets.specs.Summary.{summary, drafted, with_pin_of}
-use Rattle.nets.specs.Turns.{fixed_turn, pin_turn}
+use Rattle.nets.specs.Summary.{summary, ends_of, fixed_ends, drafted, no_ends, closed, with_pin_of}
+use Rattle.nets.specs.Turns.{ends_more, fixed_turn, pin_turn}
 use Rattle.nets.specs.Counted.{counted_other, counted_same}
-use Rattle.nets.specs.Lists.{left_fixed_more, right_fixed_more, some_more, fixed_of_fixed, fixed_of_on, cells_of_fixed, cells_of_on, has_pin_fixed, has_pin_on_lem, no_cells, left_cell_more, right_cell_more}
+use Rattle.nets.specs.Lists.{fixed_ends_more, fixed_of_fixed, fixed_of_on, cells_of_fixed, cells_of_on, has_pin_fixed, has_pin_on_lem, no_cells, left_cell_more, right_cell_more}
 
-pub fixed_turn_lem : (W : ℕ) (t : Listed) (x : ℤ) → fixed_turn (drafted W t) x ≡ drafted W (with_pin_of t (fixed x))
-unfolding fixed_turn drafted summary with_pin_of left_cell right_cell left_offset right_offset
-fixed_turn_lem W t x =
+-- of no pins nothing is kept
+pub drafted_none : (w : ℕ) → drafted (record { weight = w; pins = [] }) ≡ record { weight = record { 0 = w }; ends = None; fixed = None }
+unfolding drafted ends_of fixed_ends has_pin fixed_of
+drafted_none w = refl
+
+pub fixed_turn_lem : (t : Listed) (x : ℤ) → fixed_turn (drafted t) x ≡ drafted (with_pin_of t (fixed x))
+unfolding drafted ends_of with_pin_of left_cell right_cell left_offset right_offset
+fixed_turn_lem t x =
     rw (
       fixed_of_fixed t.pins x,
       cells_of_fixed t.pins x,
       has_pin_fixed t.pins x,
-      some_more,
-      left_fixed_more,
-      right_fixed_more,
+      fixed_ends_more (fixed_of t.pins) x,
       counted_other (least (cells_of t.pins)) t.pins (fixed x) refl,
       counted_other (greatest (cells_of t.pins)) t.pins (fixed x) refl,
     )
@@ -30,57 +35,80 @@ offsets_stay : (c i o : ℕ) (ps : List Pin) → (i ≡ c → ⊥) → offsets_o
 offsets_stay c i o ps n = counted_other c ps (on i o) (ne_eqb i c n)
 
 -- L after one pin more, and R
-left_cell_lem : (ps : List Pin) (i o : ℕ)
-    → least (cells_of (ps ++ (on i o ∷ []))) ≡ cond (has_pin ps && ltb (least (cells_of ps)) i) (least (cells_of ps)) i
-unfolding least
-left_cell_lem ps i o = go (has_pin ps) (ltb (least (cells_of ps)) i) refl refl
+left_cell_lem : (ps : List Pin) (i o : ℕ) → has_pin ps ≡ true
+    → least (cells_of (ps ++ (on i o ∷ []))) ≡ cond (leb i (least (cells_of ps))) i (least (cells_of ps))
+left_cell_lem ps i o h = go (leb i (least (cells_of ps))) refl
   where
-    go : (p b : Bool) → has_pin ps ≡ p → ltb (least (cells_of ps)) i ≡ b
-        → least (cells_of (ps ++ (on i o ∷ []))) ≡ cond (p && b) (least (cells_of ps)) i
-    go true true e h = omega (arith, left_cell_more ps i o e, ltb-true (least (cells_of ps)) i h)
-    go true false e h = omega (arith, left_cell_more ps i o e, ltb-false (least (cells_of ps)) i h)
-    go false b e h = rw (cells_of_on ps i o, no_cells ps e)
+    go : (b : Bool) → leb i (least (cells_of ps)) ≡ b → least (cells_of (ps ++ (on i o ∷ []))) ≡ cond b i (least (cells_of ps))
+    go true e = omega (arith, left_cell_more ps i o h, leb-true i (least (cells_of ps)) e)
+    go false e = omega (arith, left_cell_more ps i o h, leb-false i (least (cells_of ps)) e)
 
 right_cell_lem : (ps : List Pin) (i o : ℕ)
-    → greatest (cells_of (ps ++ (on i o ∷ []))) ≡ cond (has_pin ps && ltb i (greatest (cells_of ps))) (greatest (cells_of ps)) i
-unfolding greatest
-right_cell_lem ps i o = go (has_pin ps) (ltb i (greatest (cells_of ps))) refl refl
+    → greatest (cells_of (ps ++ (on i o ∷ []))) ≡ cond (leb (greatest (cells_of ps)) i) i (greatest (cells_of ps))
+right_cell_lem ps i o = go (leb (greatest (cells_of ps)) i) refl
   where
-    go : (p b : Bool) → has_pin ps ≡ p → ltb i (greatest (cells_of ps)) ≡ b
-        → greatest (cells_of (ps ++ (on i o ∷ []))) ≡ cond (p && b) (greatest (cells_of ps)) i
-    go true true e h = omega (arith, right_cell_more ps i o, ltb-true i (greatest (cells_of ps)) h)
-    go true false e h = omega (arith, right_cell_more ps i o, ltb-false i (greatest (cells_of ps)) h)
-    go false b e h = rw (cells_of_on ps i o, no_cells ps e) (omega arith)
+    go : (b : Bool) → leb (greatest (cells_of ps)) i ≡ b → greatest (cells_of (ps ++ (on i o ∷ []))) ≡ cond b i (greatest (cells_of ps))
+    go true e = omega (arith, right_cell_more ps i o, leb-true (greatest (cells_of ps)) i e)
+    go false e = omega (arith, right_cell_more ps i o, leb-false (greatest (cells_of ps)) i e)
 
--- the offset on the end c where c stays, and else the new pin's own
-end_offset : (f : List ℕ → ℕ) (c i o : ℕ) (ps : List Pin) (b : Bool) → (b ≡ true → i ≡ c → ⊥) → f (o ∷ []) ≡ o
-    → f (offsets_on (cond b c i) (counted (ps ++ (on i o ∷ [])))) ≡ cond b (f (offsets_on c (counted ps))) o
-end_offset f c i o ps true n e = ap f (offsets_stay c i o ps (n refl))
-end_offset f c i o ps false n e = ap f (counted_same i o ps) ∙ e
+-- the offset on the end c where the new pin takes it over, and where c stays
+end_offset : (f : List ℕ → ℕ) (c i o : ℕ) (ps : List Pin) (b : Bool) → (b ≡ false → i ≡ c → ⊥) → f (o ∷ []) ≡ o
+    → f (offsets_on (cond b i c) (counted (ps ++ (on i o ∷ [])))) ≡ cond b o (f (offsets_on c (counted ps)))
+end_offset f c i o ps true n e = ap f (counted_same i o ps) ∙ e
+end_offset f c i o ps false n e = ap f (offsets_stay c i o ps (n refl))
 
--- an end that stays is not the new pin's cell
-apart : (p : Bool) (a b : ℕ) → p && ltb a b ≡ true → a < b
-apart true a b e = ltb-true a b e
-apart false a b e = let z : ◌≡◌ {A = ℕ} 0 1 = cc in absurd (omega arith)
+-- L and R and the offsets on them
+abbrev ends : Listed → Ends
+ends t = record { left = left_cell t; right = right_cell t; onleft = left_offset t; onright = right_offset t }
 
-pub pin_turn_lem : (W : ℕ) (t : Listed) (i o : ℕ) → pin_turn (drafted W t) i o ≡ drafted W (with_pin_of t (on i o))
-unfolding pin_turn drafted summary with_pin_of left_cell right_cell left_offset right_offset least greatest
-pin_turn_lem W t i o =
-    let has = has_pin t.pins in
+-- what is kept of the pins on cells, with one more
+ends_turn : (t : Listed) (i o : ℕ) (p : Bool) → has_pin t.pins ≡ p → ends_of (with_pin_of t (on i o)) ≡ Some (ends_more (ends_of t) i o)
+unfolding ends_of with_pin_of left_cell right_cell left_offset right_offset least greatest
+ends_turn t i o true h =
     let l = least (cells_of t.pins) in
     let r = greatest (cells_of t.pins) in
     rw (
-      fixed_of_on t.pins i o,
+      h,
       has_pin_on_lem t.pins i o,
-      left_cell_lem t.pins i o,
+      left_cell_lem t.pins i o h,
       right_cell_lem t.pins i o,
-      end_offset least l i o t.pins (has && ltb l i) (λ e q. omega (arith, apart has l i e)) refl,
-      end_offset greatest r i o t.pins (has && ltb i r) (λ e q. omega (arith, apart has i r e)) (omega arith),
+      end_offset least l i o t.pins (leb i l) (λ e q. omega (arith, leb-false i l e)) refl,
+      end_offset greatest r i o t.pins (leb r i) (λ e q. omega (arith, leb-false r i e)) (omega arith),
     )
+ends_turn t i o false h = rw (h, has_pin_on_lem t.pins i o, cells_of_on t.pins i o, no_cells t.pins h, max-zero i, counted_same i o t.pins, max-zero o)
 
--- so what turns the summary of a list holds the summary of the longer list
-pub fixed_turned : (W : ℕ) (t : Listed) (d : Draft) (x : ℤ) {r : Draft} → r ≡ fixed_turn d x → d ≡ drafted W t → r ≡ drafted W (with_pin_of t (fixed x))
-fixed_turned W t d x h e = h ∙ ap (λ (s : Draft). fixed_turn s x) e ∙ fixed_turn_lem W t x
+pub pin_turn_lem : (t : Listed) (i o : ℕ) → pin_turn (drafted t) i o ≡ drafted (with_pin_of t (on i o))
+unfolding drafted with_pin_of
+pin_turn_lem t i o = rw (fixed_of_on t.pins i o, ends_turn t i o (has_pin t.pins) refl)
 
-pub pin_turned : (W : ℕ) (t : Listed) (d : Draft) (i o : ℕ) {r : Draft} → r ≡ pin_turn d i o → d ≡ drafted W t → r ≡ drafted W (with_pin_of t (on i o))
-pin_turned W t d i o h e = h ∙ ap (λ (s : Draft). pin_turn s i o) e ∙ pin_turn_lem W t i o
+-- so what turns the draft of a list holds the draft of the longer list
+pub fixed_turned : (t : Listed) (d : Draft) (x : ℤ) {r : Draft} → r ≡ fixed_turn d x → d ≡ drafted t → r ≡ drafted (with_pin_of t (fixed x))
+fixed_turned t d x h e = h ∙ ap (λ (s : Draft). fixed_turn s x) e ∙ fixed_turn_lem t x
+
+pub pin_turned : (t : Listed) (d : Draft) (i o : ℕ) {r : Draft} → r ≡ pin_turn d i o → d ≡ drafted t → r ≡ drafted (with_pin_of t (on i o))
+pin_turned t d i o h e = h ∙ ap (λ (s : Draft). pin_turn s i o) e ∙ pin_turn_lem t i o
+
+-- ---- a net that was read
+
+no_offsets : (ps : List Pin) → has_pin ps ≡ false → (i : ℕ) → offsets_on i (counted ps) ≡ []
+unfolding has_pin counted replaced offsets_on
+no_offsets [] h i = refl
+no_offsets (fixed x ∷ ps) h i = no_offsets ps h i
+no_offsets (on k o ∷ ps) h i = cc
+
+-- of a net without a pin on a cell, L and R are cell 0
+closed_ends : (t : Listed) (p : Bool) → has_pin t.pins ≡ p → unwrap_or (ends_of t) no_ends ≡ ends t
+unfolding ends_of left_cell right_cell left_offset right_offset least greatest
+closed_ends t true h = rw h
+closed_ends t false h = rw (h, no_cells t.pins h, no_offsets t.pins h 0)
+
+-- and of one without fixed pins, fl is W and fr is 0
+closed_fixed : (W : ℕ) (xs : List ℤ) → unwrap_or (fixed_ends xs) (record { left = pos W; right = pos 0 }) ≡ record { left = left_fixed W xs; right = right_fixed xs }
+unfolding fixed_ends left_fixed right_fixed
+closed_fixed W [] = refl
+closed_fixed W (x ∷ xs) = refl
+
+-- closing what is kept of a list leaves its summary
+pub closed_summary : (W : ℕ) (t : Listed) → closed W (drafted t) ≡ summary W t
+unfolding drafted summary
+closed_summary W t = rw (closed_ends t (has_pin t.pins) refl, closed_fixed W (fixed_of t.pins))

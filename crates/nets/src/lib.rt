@@ -27,7 +27,7 @@ pub struct Net {
 }
 
 // The leftmost and rightmost cells of some pins, and the offsets on them.
-#[derive(Clone, Copy)]
+#[derive(Clone, Copy, Default)]
 pub struct Ends {
     pub left: u16,
     pub right: u16,
@@ -77,6 +77,7 @@ impl Net {
     }
 
     // The net's span with L at p and R at q.
+    #[tactic(auto, unfolding(crate::specs::Span::span_at))]
     pub fn span(self, p: u32, q: u32) -> u64
         requires { Near self p q }
         ensures { result ≡ span_at self p q }
@@ -116,6 +117,7 @@ impl Fixed {
 
 impl Draft {
     // A net without pins.
+    #[tactic(auto, using(crate::specs::TurnLaws::drafted_none))]
     pub fn new(weight: u32) -> Self
         ensures { result ≡ drafted (record { weight = weight; pins = [] }) }
     {
@@ -158,12 +160,7 @@ impl Draft {
         requires { width ≤ widest }
         ensures { result ≡ closed width self }
     {
-        let ends = self.ends.unwrap_or(Ends {
-            left: 0,
-            right: 0,
-            onleft: 0,
-            onright: 0,
-        });
+        let ends = self.ends.unwrap_or_default();
         let fixed = self.fixed.unwrap_or(Fixed {
             left: width as i32,
             right: 0,

@@ -1,31 +1,35 @@
 -- From a sheet that was read and a bench that was loaded to what a placement promises: when the bench is finished, that what stands in the
 -- placement then can be measured, and what the broker's call has to be told.
-use Rattle.std.specs.Prelude.{◌≡◌, refl, Bool, true, false, not, ◌&&◌, List, [], ◌∷◌, ℕ, suc, ◌+◌, ◌*◌, ◌≤◌, ◌<◌, length, get_or, leb}
-use Rattle.std.proofs.Common.{ap, sym, ◌∙◌, arith}
+use Rattle.std.specs.Prelude.{◌≡◌, refl, Bool, true, false, not, ◌&&◌, List, [], ◌∷◌, ℕ, suc, ◌+◌, ◌*◌, ◌≤◌, ◌<◌, length, get_or, leb, Ok, Err}
+use Rattle.std.proofs.Common.{ap, sym, ◌∙◌, arith, take, length-take-le, get_or-take}
+use Rattle.std.proofs.lemmas.List.{take-map}
 use Rattle.rules.specs.Sizes.{widest}
 use Rattle.rules.specs.Row.{Row}
 use Rattle.rules.specs.Length.{legal_from, legal, netlength}
 use Rattle.rules.specs.Steps.{Bench, finished_by, finished}
 use Rattle.rules.specs.Bench.{bench_of, in_form}
 use Rattle.rules.specs.Calls.{positions, site_bytes, sites_from}
+use Rattle.rules.specs.declared.Refusal.TheVariants.{WrongBench, Unfinished}
+use Rattle.nets.specs.declared.Net.{Net}
 use Rattle.nets.specs.Apart.{ends_within}
 use Rattle.nets.specs.Span.{length_by}
-use Rattle.nets.specs.NetLists.{NetLists, nets_to}
-use Rattle.reading.specs.declared.Sheet.{Sheet}
 use Rattle.reading.specs.Reads.{Holds}
 use Rattle.reading.specs.SoundLaws.{every_at}
 use Rattle.reading.specs.Sound.{WidthFits}
+use Rattle.changes.specs.declared.Clump.{Clump}
+use Rattle.changes.specs.Columns.{cells_of, edges_of}
 use Rattle.layout.specs.Shared.{Places}
-use Rattle.layout.specs.RowLaws.{places_of_row}
 use Rattle.benches.specs.declared.Saved.{Saved}
-use Rattle.benches.specs.Saved.{Told, Loaded}
+use Rattle.benches.specs.Saved.{Told, Tells}
 use Rattle.benches.specs.BothLaws.{clash}
 use Rattle.benches.specs.FormLaws.{formed, by_hand, bench_with, bench_without}
+use Rattle.benches.specs.ColumnLaws.{cells_length}
 use Rattle.benches.specs.LegalLaws.{finished_legal}
 use Rattle.measuring.specs.Measures.{Measurable}
 use Rattle.measuring.specs.HeldLaws.{measurable, measured_length}
 use Rattle.placing.specs.Sites.{site_bytes_length, sites_back}
 use Rattle.placing.specs.Puts.{Ready}
+use Rattle.placing.specs.PutLaws.{clumps_listed}
 use Rattle.placing.specs.PlacedAs.{PlacedAs}
 
 -- ---- a legal list has a position for each cell
@@ -41,53 +45,53 @@ legal_count W from (w ∷ ws) (p ∷ ps) l = ap suc (legal_count W (p + w) ws ps
     go true e = e
     go false e = absurd (clash false e refl)
 
--- ---- the sheet, and the bench that was loaded for it
+-- ---- the row that was read, and the bench that was loaded for it
 
-module _ (h : Sheet) (widths : List ℕ) (ls : NetLists) (R : Row) (held : Holds h widths ls R) where
-  same_width : (i : ℕ) → i < h.cells → get_or widths i 0 ≡ get_or R.widths i 0
-  same_width i l = held.widths_are i (omega (arith, held.cells))
+module _ (width : ℕ) (widths : List ℕ) (nets : List Net) (R : Row) (held : Holds width widths nets R) where
+  as_many : length widths ≡ length R.widths
+  as_many = ap length held.widths_are
 
-  pub held_widths : (i : ℕ) → i < h.cells → get_or widths i 0 ≤ widest
-  held_widths i l = rw (same_width i l) (every_at WidthFits R.widths i 0 held.sound.widths (omega (arith, held.cells))).1
+  pub held_widths : (i : ℕ) → i < length widths → get_or widths i 0 ≤ widest
+  held_widths i l = rw held.widths_are (every_at WidthFits R.widths i 0 held.sound.widths (omega (arith, as_many))).1
 
-  pub held_told : (starts : List ℕ) → Places widths h.cells starts → Told R h.width h.cells starts
-  held_told starts p =
-      record { wide = held.width; many = held.cells; sums = (places_of_row {xs = widths} {ys = R.widths} same_width p).sums }
+  pub held_told : (starts : List ℕ) → length starts ≡ length widths + 1 → Places widths (length widths) starts → Told R width starts
+  held_told starts e p = record { wide = held.width_is; many = omega (arith, as_many); sums = λ i h. rw (← held.widths_are) (p.sums i (omega (arith, as_many))) }
 
-  module _ (s counts edges : List ℕ) (saved : Saved) (loaded : Loaded R s counts edges saved) (form : in_form R s ≡ true) where
+  module _ (s : List ℕ) (clumps : List Clump) (saved : Saved) (form : in_form R s ≡ true) (t : Tells s (cells_of clumps) (edges_of clumps) saved) where
     -- the test for finished
-    pub finished_told : (not saved.held && leb h.cells saved.opened) ≡ finished R (bench_of R s)
+    pub finished_told : (not saved.held && leb (length widths) saved.opened) ≡ finished R (bench_of R s)
     unfolding finished finished_by
     finished_told =
         let f = formed R s form in
-        let t = loaded.tells form in
-        rw (t.held, t.opened, held.cells)
+        rw (t.held, t.opened, as_many)
         (by_hand R s f.hand_bit
         (λ e. rw e (sym (ap (λ (b : Bench). finished R b) (bench_without R s e))))
         (λ e. rw e (sym (ap (λ (b : Bench). finished R b) (bench_with R s e (omega (arith, f.hand_clump)))))))
 
+    -- the clumps are at the front of the list lent for them
+    pub clumps_fit : length widths ≤ length clumps → saved.clumps ≤ length clumps
+    clumps_fit long = omega (arith, t.clumps, clumps_listed R s form, as_many)
+
     pub ready :
-        (placement : List ℕ) → length placement ≡ 4 * h.cells → h.cells ≤ length counts → h.cells ≤ length edges → finished R (bench_of R s) ≡ true →
-        Ready R s saved.clumps counts edges widths placement
-    ready placement room counts_long edges_long ends =
+        (placement : List ℕ) → length placement ≡ 4 * length widths → length widths ≤ length clumps → finished R (bench_of R s) ≡ true
+        → Ready R s (cells_of (take saved.clumps clumps)) (edges_of (take saved.clumps clumps)) widths placement
+    ready placement room long ends =
         record {
           form = form;
           ends = ends;
-          clumps_are = (loaded.tells form).clumps;
-          counts_are = (loaded.tells form).cells_are;
-          edges_are = (loaded.tells form).edges_are;
-          counts_long = omega (arith, held.cells);
-          edges_long = omega (arith, held.cells);
+          clumps_are = cells_length (take saved.clumps clumps) ∙ length-take-le saved.clumps clumps (clumps_fit long) ∙ t.clumps;
+          cells_are = λ k h. rw (← take-map) (get_or-take saved.clumps (cells_of clumps) k 0 (omega (arith, t.clumps)) ∙ t.cells_are k h);
+          edges_are = λ k h. rw (← take-map) (get_or-take saved.clumps (edges_of clumps) k 0 (omega (arith, t.clumps)) ∙ t.edges_are k h);
           widths = held.widths_are;
-          long = held.room_cells;
           few = held.sound.few_cells;
           near = held.sound.wide;
-          room = omega (arith, held.cells);
+          room = omega (arith, as_many);
         }
 
 -- ---- what stands in the placement then
 
-module _ (h : Sheet) (widths : List ℕ) (ls : NetLists) (R : Row) (held : Holds h widths ls R) (s : List ℕ) (form : in_form R s ≡ true) (ends : finished R (bench_of R s) ≡ true) where
+module _ (width : ℕ) (widths : List ℕ) (nets : List Net) (R : Row) (held : Holds width widths nets R) (s : List ℕ) (form : in_form R s ≡ true)
+    (ends : finished R (bench_of R s) ≡ true) where
   legal_positions : legal_from R.width 0 R.widths (positions R (bench_of R s)) ≡ true
   unfolding legal
   legal_positions = finished_legal R s form ends
@@ -112,26 +116,22 @@ module _ (h : Sheet) (widths : List ℕ) (ls : NetLists) (R : Row) (held : Holds
     after_legal : legal R (sites_from after 0 (length R.widths)) ≡ true
     after_legal = rw after_sites (finished_legal R s form ends)
 
-    pub after_measurable : Measurable ls h.nets R.widths after
-    after_measurable = measurable h widths ls R held after after_length after_legal
+    pub after_measurable : Measurable nets R.widths after
+    after_measurable = measurable width widths nets R held after after_length after_legal
 
-    pub after_measured : length_by (sites_from after 0 (length R.widths)) (nets_to ls h.nets) ≡ netlength R (positions R (bench_of R s))
-    after_measured = measured_length h widths ls R held after after_length after_legal ∙ ap (netlength R) after_sites
+    pub after_measured : length_by (sites_from after 0 (length R.widths)) nets ≡ netlength R (positions R (bench_of R s))
+    after_measured = measured_length width widths nets R held after after_length after_legal ∙ ap (netlength R) after_sites
 
 -- ---- the three ways to answer
 
 module _ (R : Row) (s before : List ℕ) where
-  never : {A : Type 0} → false ≡ true → A
-  never e = absurd (clash false e refl)
-
-  pub placed_unformed : in_form R s ≡ false → PlacedAs R s before before (record { formed = false; finished = false; length = 0 })
-  placed_unformed e = record { form = sym e; ends = rw e refl; kept = λ _. refl; bytes = λ n. never n; measure = λ n. never n }
+  pub placed_unformed : in_form R s ≡ false → PlacedAs R s before before (Err WrongBench)
+  placed_unformed e = record { wrong = λ _. refl; unfinished = λ f _. cc; kept = λ _. refl; bytes = λ b. cc; measure = λ b. cc }
 
   module _ (form : in_form R s ≡ true) where
-    pub placed_unfinished : finished R (bench_of R s) ≡ false → PlacedAs R s before before (record { formed = true; finished = false; length = 0 })
-    placed_unfinished e = record { form = sym form; ends = rw (form, e) refl; kept = λ _. refl; bytes = λ n. never n; measure = λ n. never n }
+    pub placed_unfinished : finished R (bench_of R s) ≡ false → PlacedAs R s before before (Err Unfinished)
+    placed_unfinished e = record { wrong = λ w. cc; unfinished = λ _ _. refl; kept = λ _. refl; bytes = λ b. cc; measure = λ b. cc }
 
     pub placed_finished : (after : List ℕ) (n : ℕ) → finished R (bench_of R s) ≡ true → after ≡ site_bytes (positions R (bench_of R s))
-        → n ≡ netlength R (positions R (bench_of R s)) → PlacedAs R s before after (record { formed = true; finished = true; length = n })
-    placed_finished after n e w m =
-        record { form = sym form; ends = rw (form, e) refl; kept = λ (n : true ≡ false). never (sym n); bytes = λ _. w; measure = λ _. m }
+        → n ≡ netlength R (positions R (bench_of R s)) → PlacedAs R s before after (Ok n)
+    placed_finished after n e w m = record { wrong = λ v. cc; unfinished = λ _ u. cc; kept = λ k. cc; bytes = λ _. w; measure = λ _. ap Ok m }

@@ -60,7 +60,7 @@ pub fn place(
 ) -> Result<u64, Refusal>
     requires bench_len { (length bench.now ≡ bench_size) × (length sheet.widths.now + 1 ≤ length places.old) × (length sheet.widths.now ≤ length clumps.old) × (length placement.old ≡ 4 * length sheet.widths.now) }
     requires holds { (R : Row) × Holds sheet.width sheet.widths.now sheet.nets.now R }
-    ensures { (R : Row) → Holds sheet.width sheet.widths.now sheet.nets.now R → PlacedAs R bench.now placement.old placement.new result }
+    ensures { (R : Row) → Holds sheet.entry.width sheet.entry.widths.now sheet.entry.nets.now R → PlacedAs R bench.now placement.old placement.new result }
 {
     let cells = sheet.widths.len();
     let places = &mut places[..cells + 1];

@@ -1,30 +1,23 @@
--- The end of a row: what EN and the bytes after it make of what was read (3, then 6, then taken), and that the code's struct and
--- the lists then hold the row.
-use Rattle.std.specs.Prelude.{ℕ, ◌+◌, ◌≤◌, ◌<◌, ◌≡◌, refl, false, length, get_or, drop}
-use Rattle.std.proofs.Common.{sym, ◌∙◌, ⊎_elim, arith, eq-or-lt_of_le, ne_eqb, eq-eqb, le-leb}
-use mathlib.Core.List.{List, [], ◌∷◌, ◌++◌, reverse, reverse-cons}
-use Rattle.std.proofs.lemmas.List.{length-reverse}
-use Rattle.std.proofs.Math.ListN.{get_or-append}
+-- The end of a row: what EN and the bytes after it make of what was read (3, then 6, then taken), and that the lists then hold the row.
+use Rattle.std.specs.Prelude.{ℕ, ◌+◌, ◌≤◌, ◌<◌, ◌≡◌, refl, length, drop, take, List, reverse, Option, Result, Ok, Err}
+use Rattle.std.proofs.Common.{◌∙◌, arith, ne_eqb, eq-eqb, le-leb}
 use Rattle.std.proofs.lemmas.Bool.{lt-leb}
-use Rattle.rules.specs.Row.{Net as Listed, Row}
+use Rattle.rules.specs.Row.{Row}
 use Rattle.rules.specs.Records.{Reading, record_at}
 use Rattle.rules.specs.Reading.{taken, refused, total, ended, read_row}
-use Rattle.rules.specs.declared.Refusal.{Refusal}
 use Rattle.rules.specs.declared.Refusal.TheVariants.{Tail, Full}
-use Rattle.rules.specs.declared.Record.{Record}
-use Rattle.rules.specs.declared.Record.TheVariants.{En, Refused}
+use Rattle.rules.specs.declared.Refused.{Refused}
+use Rattle.rules.specs.declared.Record.TheVariants.{En}
 use Rattle.records.specs.declared.Progress.{Progress}
-use Rattle.nets.specs.Summary.{summary}
-use Rattle.nets.specs.NetLists.{NetLists, net_at}
+use Rattle.records.specs.Answers.{answers_may}
+use Rattle.nets.specs.declared.Net.{Net}
 use Rattle.nets.specs.declared.Draft.{Draft}
-use Rattle.reading.specs.ReadingLaws.{goes_on, read_refused, read_end}
+use Rattle.reading.specs.ReadingLaws.{read_end}
 use Rattle.reading.specs.SoundLaws.{sound_read}
-use Rattle.reading.specs.Reads.{no_net, taken_sheet, closed_by, Holds, Reads}
-use Rattle.reading.specs.Underway.{Underway, told}
-use Rattle.reading.specs.Nets.{Stored, InNets, all_stored, closed_slots}
+use Rattle.reading.specs.Reads.{closed_by, Holds, Reads}
+use Rattle.reading.specs.Underway.{Underway}
+use Rattle.reading.specs.Nets.{InNets, all_stored}
 use Rattle.reading.specs.declared.Sheet.{Sheet}
-use Rattle.reading.specs.declared.Verdict.{Verdict}
-use Rattle.reading.specs.declared.Verdict.TheVariants.{Taken, Refused as Refuse}
 
 -- ---- the last two checks
 
@@ -41,79 +34,62 @@ ended_taken : (c : Reading) (u : List ℕ) → length u ≡ 0 → total c.widths
 unfolding ended
 ended_taken c u none fits = simp (eq-eqb (length u) 0 none, le-leb (total c.widths) c.head.width fits)
 
--- ---- the nets in their order
-
-snoc_get_d : (ts : List Listed) (t : Listed) (k : ℕ) → k ≡ length ts → get_or (ts ++ (t ∷ [])) k no_net ≡ t
-snoc_get_d [] t k e = rw e
-snoc_get_d (x ∷ ts) t k e = rw e (snoc_get_d ts t (length ts) refl)
-
-stored_at : (W : ℕ) (ls : NetLists) (ts : List Listed) → Stored W ls ts → (k : ℕ) → k < length ts
-    → net_at ls k ≡ summary W (get_or (reverse ts) k no_net)
-stored_at W ls [] h k l = absurd (omega arith)
-stored_at W ls (t ∷ ts) h k l =
-    let long = length-reverse ts in
-    ⊎_elim
-    (λ (e : k ≡ length ts). rw (reverse-cons, snoc_get_d (reverse ts) t k (omega arith)) (rw e h.0))
-    (λ (e : k < length ts). rw (reverse-cons, get_or-append (reverse ts) (t ∷ []) no_net k (omega arith)) (stored_at W ls ts h.1 k e))
-    (eq-or-lt_of_le {n = k} {m = length ts} (omega arith))
-
--- ---- what the struct says
+-- ---- what EN says of the row
 
 -- the row that a reading holds
 abbrev pub row_of : Reading → Row
 row_of c = record { width = c.head.width; widths = c.widths; nets = reverse c.nets }
 
-module _ (s ws : List ℕ) (sum : ℕ) (p : Progress) (t : List ℕ) (c : Reading) (u : Underway s ws sum p t c) where
-  pub says_refused : (q : Refusal) → record_at c t ≡ Refused q → read_row s ≡ refused q p.place
-  says_refused q is = rw u.shows.place (u.same ∙ read_refused c t q is)
-
-  module _ (is : record_at c t ≡ En) where
-    at_end : read_row s ≡ ended c (drop 2 t)
-    at_end = u.same ∙ read_end c t is
-
-    pub says_tail : (length (drop 2 t) ≡ 0 → ⊥) → read_row s ≡ refused Tail (p.place + 1)
-    says_tail some = rw u.shows.place (at_end ∙ ended_tail c (drop 2 t) some)
-
-    module _ (none : length (drop 2 t) ≡ 0) where
-      pub says_full : p.width < sum → read_row s ≡ refused Full p.place
-      says_full more = rw u.shows.place (at_end ∙ ended_full c (drop 2 t) none (omega (arith, u.shows.width, u.adds)))
-
-      pub says_taken : sum ≤ p.width → read_row s ≡ taken (row_of c)
-      says_taken fits = at_end ∙ ended_taken c (drop 2 t) none (omega (arith, u.shows.width, u.adds))
-
--- a record after which none follows, with the variables that stand for the reading before it
-pub record Closing (s : List ℕ) (sum : ℕ) (p : Progress) (r : Record) (t : List ℕ) (c : Reading) : Type 0 where
+-- EN stands next, with the variables that stand for the reading before it
+pub record Closing (s : List ℕ) (sum : ℕ) (p : Progress) (t : List ℕ) (c : Reading) : Type 0 where
   pub widths : List ℕ
   pub underway : Underway s widths sum p t c
-  pub is : record_at c t ≡ r
-  pub last : goes_on r ≡ false
+  pub is : record_at c t ≡ Ok En
 
--- what that record says of the row
-abbrev pub EndsBy : Verdict → List ℕ → List ℕ → Reading → ℕ → Type 0
-EndsBy Taken s t c place = (record_at c t ≡ En) × (read_row s ≡ taken (row_of c))
-EndsBy (Refuse q) s t c place = read_row s ≡ refused q place
+-- the row is taken, or refused by what follows EN or by its widths
+abbrev pub EndsBy : List ℕ → Reading → Result (Unit {0}) Refused → Type 0
+EndsBy s c (Ok x) = read_row s ≡ taken (row_of c)
+EndsBy s c (Err f) = read_row s ≡ refused f.refusal f.place
 
-module _ (s ws : List ℕ) (sum : ℕ) (p : Progress) (t : List ℕ) (d : Draft) (ls : NetLists) (c : Reading) (i : InNets s ws sum p t d ls c) where
-  holds_taken : record_at c t ≡ En → read_row s ≡ taken (row_of c) → Holds (taken_sheet p) ws (closed_by En p.opened d ls) (row_of c)
-  holds_taken is e =
-      let u = i.underway in
-      let m = told c t En is in
-      let long : length (reverse c.nets) ≡ c.head.nets = length-reverse c.nets ∙ m.all_nets in
-      let stored = all_stored s ws sum p t d ls c i En refl in
-      record {
-        width = u.shows.width;
-        cells = u.shows.cells ∙ sym i.all_cells;
-        nets = u.shows.nets ∙ sym long;
-        widths_are = u.shows.widths;
-        net = λ k l. stored_at c.head.width (closed_by En p.opened d ls) c.nets stored k (omega (arith, m.all_nets, long));
-        room_cells = omega (arith, i.all_cells, u.room);
-        room_nets = rw long (closed_slots s ws sum p t d ls c i En);
-        place = refl;
-        sound = sound_read s (row_of c) e;
-      }
+module _ (s : List ℕ) (sum : ℕ) (p : Progress) (t : List ℕ) (c : Reading) (i : Closing s sum p t c) where
+  at_end : read_row s ≡ ended c (drop 2 t)
+  at_end = i.underway.same ∙ read_end c t i.is
 
-  -- EN closes the last net, and the row is taken
-  pub reads_taken : (r : Record) (h : Sheet) (ls' : NetLists) → record_at c t ≡ r → h ≡ taken_sheet p → ls' ≡ closed_by r p.opened d ls
-      → (record_at c t ≡ En) × (read_row s ≡ taken (row_of c)) → Reads (read_row s) h ws ls'
-  reads_taken r h ls' is sheet lists e =
-      rw (e.1, sheet, lists, sym is ∙ e.0) (refl, holds_taken e.0 e.1)
+  pub says_tail : (length (drop 2 t) ≡ 0 → ⊥) → read_row s ≡ refused Tail (p.place + 1)
+  says_tail some = rw i.underway.shows.place (at_end ∙ ended_tail c (drop 2 t) some)
+
+  module _ (none : length (drop 2 t) ≡ 0) where
+    pub says_full : p.width < sum → read_row s ≡ refused Full p.place
+    says_full more =
+        let u = i.underway in
+        rw u.shows.place (at_end ∙ ended_full c (drop 2 t) none (omega (arith, u.shows.width, u.adds)))
+
+    pub says_taken : sum ≤ p.width → read_row s ≡ taken (row_of c)
+    says_taken fits =
+        let u = i.underway in
+        at_end ∙ ended_taken c (drop 2 t) none (omega (arith, u.shows.width, u.adds))
+
+-- ---- what is answered
+
+-- EN closes the last net, and the lists hold the row that is taken
+holds_taken : (s ws : List ℕ) (sum : ℕ) (p : Progress) (t : List ℕ) (d : Option Draft) (ns : List Net) (c : Reading)
+    → InNets s ws sum p t d ns c → record_at c t ≡ Ok En → read_row s ≡ taken (row_of c)
+    → Holds p.width ws (take p.nets (closed_by En p d ns)) (row_of c)
+holds_taken s ws sum p t d ns c i is e =
+    let u = i.underway in
+    let m = answers_may c t En is in
+    record {
+      width_is = u.shows.width;
+      widths_are = i.exact;
+      nets_are = rw (u.shows.nets, ← m.all_nets) (all_stored s ws sum p t d ns c i En refl);
+      sound = sound_read s (row_of c) e;
+    }
+
+pub reads_taken : (s ws : List ℕ) (sum : ℕ) (p : Progress) (t : List ℕ) (d : Option Draft) (ns : List Net) (c : Reading)
+    → InNets s ws sum p t d ns c → record_at c t ≡ Ok En → read_row s ≡ taken (row_of c) → (h : Sheet) → h.width ≡ p.width → h.widths.now ≡ ws
+    → h.nets.now ≡ take p.nets (closed_by En p d ns) → Reads (read_row s) (Ok h)
+reads_taken s ws sum p t d ns c i is e h width widths nets =
+    rw (e, width, widths, nets) (holds_taken s ws sum p t d ns c i is e)
+
+pub reads_refused : (s : List ℕ) (f : Refused) → read_row s ≡ refused f.refusal f.place → Reads (read_row s) (Err f)
+reads_refused s f e = rw e refl

@@ -1,71 +1,52 @@
--- What follows from a sheet that was read: its verdict tells what the bytes are, the bytes tell the sheet, and every net that is
+-- What follows from the answer of reading a row: it tells what the bytes are, the bytes tell it, and every net that is
 -- held is tied to cells of the row.
-use Rattle.std.specs.Prelude.{ℕ, zero, suc, ◌≤◌, ◌<◌, ◌≡◌, refl, length, get_or}
-use Rattle.std.proofs.Common.{sym, ap, ◌∙◌, subst, ⊎_elim, arith}
+use Rattle.std.specs.Prelude.{ℕ, zero, suc, ◌≤◌, ◌<◌, ◌≡◌, refl, length, get_or, Ok, Err}
+use Rattle.std.proofs.Common.{sym, ◌∙◌, subst, ⊎_elim, arith}
+use Rattle.std.proofs.lemmas.List.{get_or-map}
 use mathlib.Core.List.Memᴰ.{cases_cons}
 use mathlib.Core.List.Memᴰ.{head as here}
 use mathlib.Core.List.Memᴰ.{not-nil}
 use mathlib.Core.List.Memᴰ.{tail as there}
 use mathlib.Core.List.{List, [], ◌∷◌, Memᴰ as In}
-use Rattle.rules.specs.Sizes.{heaviest}
+use Rattle.numbers.specs.Bytes.{u16_at}
+use Rattle.rules.specs.Sizes.{most_cells, most_nets, heaviest}
 use Rattle.rules.specs.Row.{fixed, on, Net as Listed, Row}
 use Rattle.rules.specs.Reading.{Read, taken, refused}
-use Rattle.rules.specs.declared.Refusal.{Refusal}
+use Rattle.rules.specs.declared.Refused.{Refused}
 use Rattle.nets.specs.declared.Net.{Net}
-use Rattle.nets.specs.NetLists.{NetLists, net_at}
-use Rattle.nets.specs.Summary.{summary}
+use Rattle.nets.specs.Summary.{summary, nothing}
 use Rattle.nets.specs.Span.{Tied, Kept}
 use Rattle.nets.specs.SpanLaws.{tied_kept}
 use Rattle.reading.specs.Sound.{Every, PinFits, NetFits, Pinned, Sound}
 use Rattle.reading.specs.SoundLaws.{every_at}
-use Rattle.reading.specs.Reads.{no_net, Holds, sheet_of, Reads}
+use Rattle.reading.specs.Reads.{Roomy, Holds, Reads}
 use Rattle.reading.specs.declared.Sheet.{Sheet}
-use Rattle.reading.specs.declared.Verdict.TheVariants.{Taken, Refused}
 
--- ---- by the verdict
+-- ---- before reading
 
-pub said_refused : (x : Read) (h : Sheet) (ws : List ℕ) (ls : NetLists) (q : Refusal) → Reads x h ws ls → h.verdict ≡ Refused q
-    → x ≡ refused q h.place
-said_refused (taken R) h ws ls q r e = let v = r.0 in cc
-said_refused (refused p place) h ws ls q r e =
-    let v = ap (λ (k : Sheet). k.verdict) r in
-    let at = ap (λ (k : Sheet). k.place) r in
-    cc
+-- lists for the most cells and nets have room for every row, and shorter ones where the bytes say no more than they hold
+pub most_roomy : (s : List ℕ) (cells nets : ℕ) → most_cells ≤ cells → most_nets ≤ nets → Roomy s cells nets
+most_roomy s cells nets c n = record { for_cells = omega arith; for_nets = omega arith }
 
-pub said_taken : (x : Read) (h : Sheet) (ws : List ℕ) (ls : NetLists) → Reads x h ws ls → h.verdict ≡ Taken
-    → (R : Row) × ((x ≡ taken R) × Holds h ws ls R)
-said_taken (taken R) h ws ls r e = (R, (refl, r.1))
-said_taken (refused q place) h ws ls r e =
-    let v = ap (λ (k : Sheet). k.verdict) r in
-    let z : ◌≡◌ {A = ℕ} 0 1 = cc in
-    absurd (omega arith)
+pub few_roomy : (s : List ℕ) (cells nets : ℕ) → u16_at s 6 ≤ cells → u16_at s 8 ≤ nets → Roomy s cells nets
+few_roomy s cells nets c n = record { for_cells = omega arith; for_nets = omega arith }
 
--- a sheet of a row that was taken, by its parts
-pub holds_parts : (h : Sheet) (ws : List ℕ) (ls : NetLists) (R : Row) → Holds h ws ls R → Holds (sheet_of h.width h.cells h.nets) ws ls R
-holds_parts h ws ls R a =
-    record {
-      width = a.width;
-      cells = a.cells;
-      nets = a.nets;
-      widths_are = a.widths_are;
-      net = a.net;
-      room_cells = a.room_cells;
-      room_nets = a.room_nets;
-      place = refl;
-      sound = a.sound;
-    }
+-- ---- by the answer
 
--- ---- two sheets of the same bytes
+pub reads_ok : (x : Read) (h : Sheet) → Reads x (Ok h) → (R : Row) × ((x ≡ taken R) × Holds h.width h.widths.now h.nets.now R)
+reads_ok (taken R) h r = (R, (refl, r))
+reads_ok (refused q place) h r = absurd r
 
-same_sheet : (h k : Sheet) → h.verdict ≡ k.verdict → h.place ≡ k.place → h.width ≡ k.width → h.cells ≡ k.cells → h.nets ≡ k.nets → h ≡ k
-same_sheet h k v p w c n = λ i. record { verdict = v i; place = p i; width = w i; cells = c i; nets = n i }
+pub reads_err : (x : Read) (f : Refused) → Reads x (Err f) → x ≡ refused f.refusal f.place
+reads_err (taken R) f r = absurd r
+reads_err (refused q place) f r = rw r refl
 
-pub reads_once : (x : Read) (h k : Sheet) (ws vs : List ℕ) (ls ms : NetLists) → Reads x h ws ls → Reads x k vs ms → h ≡ k
-reads_once (taken R) h k ws vs ls ms a b =
-    let p = a.1 in
-    let q = b.1 in
-    same_sheet h k (a.0 ∙ sym b.0) (p.place ∙ sym q.place) (p.width ∙ sym q.width) (p.cells ∙ sym q.cells) (p.nets ∙ sym q.nets)
-reads_once (refused q place) h k ws vs ls ms a b = a ∙ sym b
+-- ---- two answers of the same bytes
+
+-- two rows that were read are the same in every part
+pub holds_once : (R : Row) (h k : Sheet) → Holds h.width h.widths.now h.nets.now R → Holds k.width k.widths.now k.nets.now R
+    → (h.width ≡ k.width) × ((h.widths.now ≡ k.widths.now) × (h.nets.now ≡ k.nets.now))
+holds_once R h k a b = (a.width_is ∙ sym b.width_is, (a.widths_are ∙ sym b.widths_are, a.nets_are ∙ sym b.nets_are))
 
 -- ---- the nets of a sound row
 
@@ -89,13 +70,22 @@ get_d_in [] k d l = absurd (omega arith)
 get_d_in (x ∷ xs) zero d l = here refl
 get_d_in (x ∷ xs) (suc k) d l = there (get_d_in xs k d (omega arith))
 
+-- what stands where there is no net
+abbrev pub no_net : Listed
+no_net = record { weight = 0; pins = [] }
+
+-- the net that is held at a place is what is kept of the row's net there
+pub held_net : (width : ℕ) (widths : List ℕ) (nets : List Net) (R : Row) → Holds width widths nets R → (k : ℕ) → k < length R.nets
+    → get_or nets k nothing ≡ summary R.width (get_or R.nets k no_net)
+held_net width widths nets R held k l = rw held.nets_are (get_or-map (summary R.width) R.nets k no_net nothing l)
+
 -- what is kept of each net
-pub held_kept : (h : Sheet) (ws : List ℕ) (ls : NetLists) (R : Row) → Holds h ws ls R → (k : ℕ) → k < length R.nets
-    → Kept R.widths (net_at ls k) × ((1 ≤ (net_at ls k).weight.0) × ((net_at ls k).weight.0 ≤ heaviest))
+pub held_kept : (width : ℕ) (widths : List ℕ) (nets : List Net) (R : Row) → Holds width widths nets R → (k : ℕ) → k < length R.nets
+    → Kept R.widths (get_or nets k nothing) × ((1 ≤ (get_or nets k nothing).weight.0) × ((get_or nets k nothing).weight.0 ≤ heaviest))
 unfolding summary
-held_kept h ws ls R held k l =
+held_kept width widths nets R held k l =
     let t = get_or R.nets k no_net in
     let s = held.sound in
     let fits = every_at (NetFits R.widths) R.nets k no_net s.nets l in
-    subst (λ (n : Net). Kept R.widths n × ((1 ≤ n.weight.0) × (n.weight.0 ≤ heaviest))) (sym (held.net k l))
+    subst (λ (n : Net). Kept R.widths n × ((1 ≤ n.weight.0) × (n.weight.0 ≤ heaviest))) (sym (held_net width widths nets R held k l))
     (tied_kept R.width R.widths t s.wide (sound_tied R s t (get_d_in R.nets k no_net l)), (fits.weighs, fits.light))

@@ -1,6 +1,6 @@
 -- A row that is taken is sound: what has been read so far is good, each record that may stand next keeps it so, and EN closes the last
 -- net. Also how far a reading can come: every record is counted once, so its place stays small.
-use Rattle.std.specs.Prelude.{ℕ, zero, suc, ◌+◌, ◌*◌, ◌≤◌, ◌<◌, ◌≡◌, refl, Bool, true, false, cond, length, get_or, drop, eqb, leb}
+use Rattle.std.specs.Prelude.{ℕ, zero, suc, ◌+◌, ◌*◌, ◌≤◌, ◌<◌, ◌≡◌, refl, Bool, true, false, cond, length, get_or, drop, eqb, leb, Result, Ok, Err}
 use Rattle.std.proofs.Common.{zero-le, subst, arith, leb-true}
 use mathlib.Core.List.{List, [], ◌∷◌, ◌++◌, reverse, reverse-cons}
 use Rattle.std.proofs.lemmas.List.{length-reverse}
@@ -12,7 +12,7 @@ use Rattle.rules.specs.Reading.{Read, taken, refused, start, with_pin, after, to
 use Rattle.rules.specs.declared.Refusal.{Refusal}
 use Rattle.rules.specs.declared.Refusal.TheVariants.{Cut, Tail, Full}
 use Rattle.rules.specs.declared.Record.{Record}
-use Rattle.rules.specs.declared.Record.TheVariants.{Rw, Ce, Nt, Fp, Mp, En, Refused}
+use Rattle.rules.specs.declared.Record.TheVariants.{Rw, Ce, Nt, Fp, Mp, En}
 use Rattle.records.specs.May.{May}
 use Rattle.records.specs.Answers.{answers_may}
 use Rattle.records.specs.ShowsLaws.{same_nets}
@@ -141,7 +141,6 @@ after_good c r g h = go r h (within_after c r g.within h)
     go (Fp x) h i = pin_good c (fixed x) g i (h.right, h.left)
     go (Mp k o) h i = pin_good c (on k o) g i (omega (arith, g.ordered h.pin.in_net, h.cell), h.offset)
     go En h i = g
-    go (Refused q) h i = g
 
 -- ---- the end
 
@@ -173,24 +172,24 @@ ended_sound c s R g h e =
     })
 
 -- a row that is taken was taken by EN, or by what the next record leads to
-by_sound : (c : Reading) (s : List ℕ) (r : Record) (next : Read) (R : Row) → Good c → May c r → by_record c s r next ≡ taken R
-    → (next ≡ taken R → Sound R) → Sound R
-by_sound c s (Rw w n m) next R g h e k = k e
-by_sound c s (Ce w) next R g h e k = k e
-by_sound c s (Nt w) next R g h e k = k e
-by_sound c s (Fp x) next R g h e k = k e
-by_sound c s (Mp i o) next R g h e k = k e
-by_sound c s En next R g h e k = ended_sound c (drop 2 s) R g h e
-by_sound c s (Refused q) next R g h e k = absurd (not_taken (refused q c.place) q c.place refl R e)
+by_sound : (c : Reading) (s : List ℕ) (a : Result Record Refusal) (next : Record → Read) (R : Row) → Good c
+    → ((r : Record) → a ≡ Ok r → May c r × (next r ≡ taken R → Sound R)) → by_record c s a next ≡ taken R → Sound R
+by_sound c s (Ok (Rw w n m)) next R g h e = (h (Rw w n m) refl).1 e
+by_sound c s (Ok (Ce w)) next R g h e = (h (Ce w) refl).1 e
+by_sound c s (Ok (Nt w)) next R g h e = (h (Nt w) refl).1 e
+by_sound c s (Ok (Fp x)) next R g h e = (h (Fp x) refl).1 e
+by_sound c s (Ok (Mp i o)) next R g h e = (h (Mp i o) refl).1 e
+by_sound c s (Ok En) next R g h e = ended_sound c (drop 2 s) R g (h En refl).0 e
+by_sound c s (Err q) next R g h e = absurd (not_taken (refused q c.place) q c.place refl R e)
 
 sound_up_to : (f : ℕ) (c : Reading) (s : List ℕ) (R : Row) → Good c → read_up_to f c s ≡ taken R → Sound R
 unfolding read_up_to
 sound_up_to zero c s R g e = absurd (not_taken (refused Cut c.place) Cut c.place refl R e)
 sound_up_to (suc f) c s R g e =
-    let r = record_at c s in
-    let t = drop (takes r) s in
-    let h = answers_may c s in
-    by_sound c s r (read_up_to f (after c r) t) R g h e (λ k. sound_up_to f (after c r) t R (after_good c r g h) k)
+    by_sound c s (record_at c s) (λ r. read_up_to f (after c r) (drop (takes r) s)) R g
+    (λ r is.
+    let h = answers_may c s r is in
+    (h, λ k. sound_up_to f (after c r) (drop (takes r) s) R (after_good c r g h) k)) e
 
 pub sound_from : (c : Reading) (s : List ℕ) (R : Row) → Good c → read_from c s ≡ taken R → Sound R
 unfolding read_from

@@ -3,11 +3,10 @@
 // a lent list when the next NT or EN closes it.
 #![tactic(auto)]
 
-ghost use Rattle.std.specs.Prelude.{◌≡◌, List, ℕ, Bool, ◌+◌, ◌-◌, ◌≤◌, ◌<◌, ◌||◌, min, set, length, cond, ltb, Ok, Err};
+ghost use Rattle.std.specs.Prelude.{IfOk, ◌≡◌, List, ℕ, ◌≤◌, min, length, IfSome};
 ghost use Rattle.rules.specs.Sizes.{widest, most_cells, most_nets};
 ghost use Rattle.rules.specs.Records.{Reading};
 ghost use Rattle.rules.specs.Reading.{after, read_row};
-ghost use Rattle.reading.specs.ReadingLaws.{goes_on};
 ghost use Rattle.reading.specs.Reads.{closes_net, closed_by, placed, Roomy, Reads};
 ghost use Rattle.numbers.specs.Bytes.{u16_at};
 ghost use Rattle.reading.specs.Cells.{FillsBy};
@@ -73,6 +72,7 @@ fn read_cells<'a>(s: &'a [u8], widths: &mut [u32]) -> Result<Cells<'a>, Refused>
 }
 
 // What is kept of the open net, if one is open, after one record more.
+#[tactic(auto, using(crate::specs::Nets::no_pin_drafted), unfolding(rules::specs::Reading::after))]
 fn drafted_by(d: Option<Draft>, r: Record) -> Option<Draft>
     ensures { (c : Reading) → Drafting d c.nets → Drafting result (after c r).nets }
 {
@@ -112,11 +112,11 @@ fn closes(r: Record) -> bool
 }
 
 // A record that closes a net: what is kept of that net goes to its place in the list.
-fn close(r: Record, p: Progress, open: Option<Draft>, nets: &mut [Net])
-    requires { (p.width ≤ widest) × (p.opened ≤ length nets.old) × IfSome open (λ d. 1 ≤ p.opened) }
-    ensures { nets.new ≡ closed_by r p open nets.old }
+fn close(r: Record, p: Progress, draft: Option<Draft>, nets: &mut [Net])
+    requires { (p.width ≤ widest) × (p.opened ≤ length nets.old) × IfSome draft (λ d. 1 ≤ p.opened) }
+    ensures { nets.new ≡ closed_by r p draft nets.old }
 {
-    if let Some(draft) = open {
+    if let Some(draft) = draft {
         if closes(r) {
             nets[p.opened - 1] = draft.closed(p.width);
         }
@@ -130,16 +130,17 @@ pub fn read_row<'a>(
     nets: &'a mut [Net],
 ) -> Result<Sheet<'a>, Refused>
     requires { Roomy s.now (length widths.old) (length nets.old) }
-    ensures { Reads (read_row s.now) result }
+    ensures reads { Reads (read_row s.now) result }
+    ensures within { IfOk result (λ h. (length h.widths.now ≤ length widths.old) × (length h.nets.now ≤ length nets.old)) }
 {
     let cells = read_cells(s, widths)?;
     let mut p = cells.progress;
     let widths = &widths[..p.cells];
     let mut t = cells.rest;
-    let mut open = None;
+    let mut draft = None;
     loop {
         let r = placed(p, records::read_in_nets(p, widths, t))?;
-        close(r, p, open, nets);
+        close(r, p, draft, nets);
         if let Record::En = r {
             ended(cells.sum, p, t)?;
             return Ok(Sheet {
@@ -148,7 +149,7 @@ pub fn read_row<'a>(
                 nets: &nets[..p.nets],
             });
         }
-        open = drafted_by(open, r);
+        draft = drafted_by(draft, r);
         p = p.after(r);
         t = records::rest(t, r);
     }

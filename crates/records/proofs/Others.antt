@@ -4,7 +4,7 @@ use borrow.Author.Tests.{ne_eqb}
 use Rattle.rules.specs.Records.{Reading, in_nets, allowed}
 use Rattle.rules.specs.Reading.{start}
 use Rattle.rules.specs.declared.Mark.{Mark}
-use Rattle.rules.specs.declared.Mark.TheVariants.{RowMark, CellMark, NetMark, FixedMark, PinMark, EndMark, NoMark}
+use Rattle.rules.specs.declared.Mark.TheVariants.{RowMark, CellMark, NetMark, FixedMark, PinMark, EndMark}
 use Rattle.records.specs.Parts.{AtCells}
 
 -- nothing but RW comes first
@@ -16,7 +16,6 @@ other_first NetMark k = refl
 other_first FixedMark k = refl
 other_first PinMark k = refl
 other_first EndMark k = refl
-other_first NoMark k = refl
 
 -- while a width is missing, nothing but CE comes next
 pub other_cell : (c : Reading) → AtCells c → (m : Mark) → (m ≡ CellMark → ⊥) → allowed c m ≡ false
@@ -27,4 +26,3 @@ other_cell c h NetMark k = rw (h.started, ne_eqb (length c.widths) c.head.cells 
 other_cell c h FixedMark k = rw h.none
 other_cell c h PinMark k = rw h.none
 other_cell c h EndMark k = rw (h.started, ne_eqb (length c.widths) c.head.cells (λ e. omega (arith, h.fewer)))
-other_cell c h NoMark k = refl

@@ -1,5 +1,6 @@
 pub mod Progress
 pub mod Shows
+pub mod Recorded
 pub mod ShowsLaws
 pub mod Parts
 pub mod May

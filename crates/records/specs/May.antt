@@ -5,7 +5,7 @@ use Rattle.numbers.specs.Signed.{above, below}
 use Rattle.rules.specs.Sizes.{widest, most_cells, most_nets, heaviest, most_pins}
 use Rattle.rules.specs.Records.{Reading, lonely}
 use Rattle.rules.specs.declared.Record.{Record}
-use Rattle.rules.specs.declared.Record.TheVariants.{Rw, Ce, Nt, Fp, Mp, En, Refused}
+use Rattle.rules.specs.declared.Record.TheVariants.{Rw, Ce, Nt, Fp, Mp, En}
 
 pub record MayRow (c : Reading) (w n m : ℕ) : Type 0 where
   pub first : c.head.started ≡ false
@@ -57,4 +57,3 @@ May c (Nt w) = MayNet c w
 May c (Fp x) = MayFixed c x
 May c (Mp i o) = MayOn c i o
 May c En = MayEnd c
-May c (Refused q) = Unit

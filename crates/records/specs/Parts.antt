@@ -1,18 +1,19 @@
 -- The parts of a row (document 01, "The row as bytes", its order): RW comes first, CE while a width is missing, then the nets and EN.
 -- Which marks may stand in a part, by the numbers of the code's struct, and the order of faults in one record, test by test.
-use Rattle.std.specs.Prelude.{ℕ, ◌≤◌, ◌<◌, ◌≡◌, refl, List, [], ◌∷◌, Bool, true, false, ◌&&◌, not, ltb, leb, eqb, length}
-use Rattle.std.proofs.Common.{ap, arith}
-use borrow.Author.Tests.{eq-eqb, ne_eqb, lt-ltb, le-ltb, le-leb, lt-leb, ltb-true}
+use Rattle.std.specs.Prelude.{ℕ, ◌≤◌, ◌<◌, ◌≡◌, refl, List, [], ◌∷◌, Bool, true, false, cond, ◌&&◌, not, ltb, leb, eqb, length, Option, Some, None, Result, Ok, Err, ok_or}
+use Rattle.std.proofs.Common.{ap, arith, leb-true}
+use borrow.Author.Tests.{eq-eqb, ne_eqb, lt-ltb, le-ltb, ltb-true}
 use Rattle.numbers.specs.Bytes.{u16_at}
 use Rattle.rules.specs.Row.{Net}
-use Rattle.rules.specs.Records.{Reading, mark_of, size_of, net_open, in_nets, allowed, lonely, closes, fields, marked, record_at}
+use Rattle.rules.specs.Records.{Reading, with_mark, mark_of, size_of, net_open, in_nets, allowed, lonely, closes, fields, marked, record_at}
 use Rattle.rules.specs.Reading.{start}
+use Rattle.rules.specs.declared.Refusal.{Refusal}
 use Rattle.rules.specs.declared.Refusal.TheVariants.{Cut, WrongMark, Lonely}
 use Rattle.rules.specs.declared.Mark.{Mark}
-use Rattle.rules.specs.declared.Mark.TheVariants.{RowMark, CellMark, NetMark, FixedMark, PinMark, EndMark, NoMark}
-use Rattle.rules.specs.declared.Record.TheVariants.{Refused}
+use Rattle.rules.specs.declared.Mark.TheVariants.{RowMark, CellMark, NetMark, FixedMark, PinMark, EndMark}
 use Rattle.records.specs.declared.Progress.{Progress}
 use Rattle.records.specs.Shows.{Shows}
+use Rattle.records.specs.Recorded.{mark_at, whole}
 
 -- a width is missing, and so no net is read
 pub record AtCells (c : Reading) : Type 0 where
@@ -27,33 +28,59 @@ pub record AtNets (c : Reading) : Type 0 where
 
 -- ---- the order of faults in a record
 
+mark_needs : (s : List ℕ) (m : Mark) (b : Bool) (r : Result Mark Refusal) → leb 2 (length s) ≡ b → Ok m ≡ cond b r (Err Cut) → 2 ≤ length s
+mark_needs s m true r l e = leb-true 2 (length s) l
+mark_needs s m false r l e = cc
+
+-- a mark takes two bytes
+pub mark_there : (s : List ℕ) (m : Mark) → Ok m ≡ mark_at s → 2 ≤ length s
+mark_there s m e = mark_needs s m (leb 2 (length s)) (ok_or (mark_of (u16_at s 0)) WrongMark) refl e
+
 module _ (c : Reading) (s : List ℕ) where
-  pub no_mark : length s < 2 → Refused Cut ≡ record_at c s
+  mark_refused : (b : Bool) (o : Option Mark) (q : Refusal) → Err q ≡ cond b (ok_or o WrongMark) (Err Cut) → Err q ≡ cond b (with_mark c o s) (Err Cut)
+  mark_refused true (Some m) q e = cc
+  mark_refused true None q e = cc
+  mark_refused false o q e = cc
+
+  mark_read : (b : Bool) (o : Option Mark) (m : Mark) → Ok m ≡ cond b (ok_or o WrongMark) (Err Cut) → marked c m s ≡ cond b (with_mark c o s) (Err Cut)
+  mark_read true (Some k) m e = cc
+  mark_read true None m e = cc
+  mark_read false o m e = cc
+
+  pub no_mark : (q : Refusal) → Err q ≡ mark_at s → Err q ≡ record_at c s
   unfolding record_at
-  no_mark h = rw (lt-leb _ _ h)
+  no_mark q e = mark_refused (leb 2 (length s)) (mark_of (u16_at s 0)) q e
 
   module _ (m : Mark) where
-    pub by_mark : 2 ≤ length s → m ≡ mark_of (u16_at s 0) → marked c m s ≡ record_at c s
+    pub by_mark : Ok m ≡ mark_at s → marked c m s ≡ record_at c s
     unfolding record_at
-    by_mark h e = rw (le-leb _ _ h, ← e)
+    by_mark e = mark_read (leb 2 (length s)) (mark_of (u16_at s 0)) m e
 
-    pub wrong_mark : allowed c m ≡ false → Refused WrongMark ≡ marked c m s
+    body_cut : (b : Bool) (q : Refusal) → Err q ≡ cond b (Ok (tt {0})) (Err Cut) → Err q ≡ cond b (fields c m s) (Err Cut)
+    body_cut true q e = cc
+    body_cut false q e = cc
+
+    body_there : (b : Bool) (u : Unit {0}) → Ok u ≡ cond b (Ok tt) (Err Cut) → fields c m s ≡ cond b (fields c m s) (Err Cut)
+    body_there true u e = refl
+    body_there false u e = cc
+
+    pub wrong_mark : allowed c m ≡ false → Err WrongMark ≡ marked c m s
     unfolding marked
     wrong_mark a = rw a
 
     module _ (a : allowed c m ≡ true) where
-      pub left_lonely : (closes m && lonely c.nets) ≡ true → Refused Lonely ≡ marked c m s
+      pub left_lonely : (closes m && lonely c.nets) ≡ true → Err Lonely ≡ marked c m s
       unfolding marked
       left_lonely l = rw (a, l)
 
       module _ (l : (closes m && lonely c.nets) ≡ false) where
-        pub cut_short : length s < size_of m → Refused Cut ≡ marked c m s
+        pub cut_short : (q : Refusal) → Err q ≡ whole m s → Err q ≡ marked c m s
         unfolding marked
-        cut_short h = rw (a, l, lt-leb _ _ h)
+        cut_short q e = rw (a, l) (body_cut (leb (size_of m) (length s)) q e)
 
-        pub whole : size_of m ≤ length s → fields c m s ≡ marked c m s
+        pub by_fields : (u : Unit {0}) → Ok u ≡ whole m s → fields c m s ≡ marked c m s
         unfolding marked
-        whole h = rw (a, l, le-leb _ _ h)
+        by_fields u e = rw (a, l) (body_there (leb (size_of m) (length s)) u e)
 
 -- the width of a cell counts only where there is such a cell
 pub width_there : (i n o a b : ℕ) → (i < n → a ≡ b) → (ltb i n && leb o a) ≡ (ltb i n && leb o b)
@@ -68,10 +95,6 @@ width_there i n o a b same = go (ltb i n) refl
 pub row_next : allowed start RowMark ≡ true
 unfolding allowed start
 row_next = refl
-
-pub never_no_mark : (c : Reading) → allowed c NoMark ≡ false
-unfolding allowed
-never_no_mark c = refl
 
 pub cell_next : (c : Reading) → AtCells c → allowed c CellMark ≡ true
 unfolding allowed

@@ -3,7 +3,7 @@
 use Rattle.std.specs.Prelude.{ℕ, ◌+◌, ◌≤◌, true, false}
 use Rattle.rules.specs.Sizes.{most_cells, most_nets, most_pins}
 use Rattle.rules.specs.declared.Record.{Record}
-use Rattle.rules.specs.declared.Record.TheVariants.{Rw, Ce, Nt, Fp, Mp, En, Refused}
+use Rattle.rules.specs.declared.Record.TheVariants.{Rw, Ce, Nt, Fp, Mp, En}
 use Rattle.records.specs.declared.Progress.{Progress}
 
 -- RW, the widths, the nets and the pins: a row has no more records before EN
@@ -26,4 +26,3 @@ progress_after p (Nt w) = record { place = p.place + 1; width = p.width; cells =
 progress_after p (Fp x) = record { place = p.place + 1; width = p.width; cells = p.cells; nets = p.nets; filled = p.filled; opened = p.opened; pins = p.pins + 1; pinned = p.pinned }
 progress_after p (Mp i o) = record { place = p.place + 1; width = p.width; cells = p.cells; nets = p.nets; filled = p.filled; opened = p.opened; pins = p.pins + 1; pinned = true }
 progress_after p En = p
-progress_after p (Refused q) = p

@@ -1,5 +1,5 @@
 -- What the readers of one record answer, beside the record of the definitions: RW and CE by their numbers alone, or the refusal as it is.
-use Rattle.std.specs.Prelude.{ℕ, List, Bool, cond, length, leb, Result, Ok, Err, ok_or}
+use Rattle.std.specs.Prelude.{ℕ, List, cond, length, leb, Result, Ok, Err, ok_or}
 use Rattle.numbers.specs.Bytes.{u16_at}
 use Rattle.rules.specs.Records.{mark_of, size_of}
 use Rattle.rules.specs.declared.Refusal.{Refusal}

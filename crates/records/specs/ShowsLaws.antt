@@ -5,7 +5,7 @@ use Rattle.rules.specs.Row.{Pin, fixed, on, Net}
 use Rattle.rules.specs.Records.{Reading, has_pin, lonely}
 use Rattle.rules.specs.Reading.{with_pin, after}
 use Rattle.rules.specs.declared.Record.{Record}
-use Rattle.rules.specs.declared.Record.TheVariants.{Rw, Ce, Nt, Fp, Mp, En, Refused}
+use Rattle.rules.specs.declared.Record.TheVariants.{Rw, Ce, Nt, Fp, Mp, En}
 use Rattle.records.specs.declared.Progress.{Progress}
 use Rattle.records.specs.Progress.{progress_after}
 use Rattle.records.specs.Shows.{Shows}
@@ -88,4 +88,3 @@ shows_after {c = c} h (Fp x) ws' same =
 shows_after {c = c} h (Mp i o) ws' same =
     record { place = one_on h.place; width = h.width; cells = h.cells; nets = h.nets; filled = h.filled; opened = h.opened ∙ sym (same_nets (on i o) c.nets); pins = one_on h.pins; pinned = rw on_ends_lonely; widths = same }
 shows_after h En ws' same = shows_widths h ws' same
-shows_after h (Refused q) ws' same = shows_widths h ws' same

@@ -7,7 +7,7 @@ use Rattle.rules.specs.Row.{fixed, on}
 use Rattle.rules.specs.Records.{Reading}
 use Rattle.rules.specs.Reading.{start, after}
 use Rattle.rules.specs.declared.Record.{Record}
-use Rattle.rules.specs.declared.Record.TheVariants.{Rw, Ce, Nt, Fp, Mp, En, Refused}
+use Rattle.rules.specs.declared.Record.TheVariants.{Rw, Ce, Nt, Fp, Mp, En}
 use Rattle.records.specs.declared.Progress.{Progress}
 use Rattle.records.specs.Progress.{Small}
 use Rattle.records.specs.Shows.{Shows}
@@ -58,7 +58,6 @@ within_after c (Mp i o) h y =
     let k = same_nets (on i o) c.nets in
     record { first = λ e. absurd (said c h y.pin.in_net (h.first e)); place = omega (arith, h.place, k); cells = h.cells; nets = h.nets; filled = h.filled; opened = omega (arith, h.opened, k); pins = omega (arith, y.pin.fewer) }
 within_after c En h y = h
-within_after c (Refused q) h y = h
 
 pub within_small : {p : Progress} {ws : List ℕ} {c : Reading} → Shows p ws c → Within c → Small p
 within_small h w =

@@ -2,22 +2,57 @@
 // A thin program over the library: all that it prints comes from the proved calls. What is read and written is tested, not proved.
 #![tactic(auto)]
 
-ghost use Rattle.std.specs.Prelude.{◌≡◌, ◌*◌, ◌≤◌, length, IfOk};
+ghost use Rattle.std.specs.Prelude.{◌≡◌, ◌*◌, ◌≤◌, length};
 ghost use Rattle.rules.specs.Sizes.{most_cells};
 
 use rules::{BENCH_SIZE, MOST_CELLS};
-use std::io;
 use std::io::Read;
+use std::{fmt, io};
 
 // No row is longer than this: what comes after is not read.
-const MOST_BYTES: usize = 65536;
+const MOST_BYTES: u64 = 65536;
 
-fn print_refused(rt: &impl Print, answer: u64) -> io::Result<()> {
-    println!(rt;
-        "refused {} {}",
-        answer / 4294967296 % 2147483648,
-        answer % 4294967296
-    )
+// A refusal by its number, and its place.
+#[derive(Clone, Copy)]
+struct Refused {
+    number: u64,
+    place: u64,
+}
+
+impl fmt::Display for Refused {
+    fn fmt<W: fmt::Write>(&self, f: &mut fmt::Formatter<W>) -> fmt::Result {
+        write!(f, "refused {} {}", self.number, self.place)
+    }
+}
+
+// A call's one u64 taken apart: from 2^63 on it is a refusal.
+fn taken(answer: u64) -> Result<u64, Refused> {
+    if answer < 9223372036854775808 {
+        return Ok(answer);
+    }
+    Err(Refused {
+        number: answer / 4294967296 % 2147483648,
+        place: answer % 4294967296,
+    })
+}
+
+// The netlength, steps, carried and the bound on carried of a finished run.
+#[derive(Clone, Copy)]
+struct Done {
+    netlength: u64,
+    steps: u64,
+    carried: u32,
+    bound: u64,
+}
+
+impl fmt::Display for Done {
+    fn fmt<W: fmt::Write>(&self, f: &mut fmt::Formatter<W>) -> fmt::Result {
+        write!(
+            f,
+            "done {} {} {} {}",
+            self.netlength, self.steps, self.carried, self.bound
+        )
+    }
 }
 
 // Cell and position, a line each.
@@ -30,79 +65,40 @@ fn print_cells(rt: &impl Print, sites: &[u8], cells: usize) -> io::Result<()>
     Ok(())
 }
 
-// The word done, netlength, steps, carried and the bound on carried.
-fn print_done(
-    rt: &impl Print,
-    netlength: u64,
-    sliced: u64,
-    carried: u32,
-    nets: u16,
-) -> io::Result<()> {
-    println!(rt;
-        "done {netlength} {} {carried} {}",
-        sliced / 2,
-        lugsheet::carried_bound(nets)
-    )
-}
-
-// Room for the positions of the most cells.
-fn room() -> [u8; 4 * MOST_CELLS]
-    ensures { length result ≡ 4 * most_cells }
+// Runs a row that is not refused to the finish, and writes its positions.
+fn run(row: &[u8], sites: &mut [u8]) -> Done
+    requires { 10 ≤ length row.now }
 {
-    [0; 4 * MOST_CELLS]
-}
-
-// Runs a row that is not refused to the finish, and prints what comes of it.
-fn run(rt: &impl Print, row: &[u8], sites: &mut [u8], cells: usize) -> io::Result<()>
-    requires { (length sites.old ≡ 4 * cells) × (cells ≤ most_cells) × (10 ≤ length row.now) }
-{
-    let mut bench = [0u8; BENCH_SIZE];
+    let mut bench = [0; BENCH_SIZE];
     lugsheet::lugsheet_fresh(&mut bench);
     let sliced = lugsheet::lugsheet_slice(row, &mut bench, 4294967295);
-    let netlength = lugsheet::lugsheet_placement(row, &bench, sites);
-    print_done(
-        rt,
-        netlength,
-        sliced,
-        numbers::u32_at(&bench, 7),
-        numbers::u16_at(row, 8),
-    )?;
-    print_cells(rt, sites, cells)
+    Done {
+        netlength: lugsheet::lugsheet_placement(row, &bench, sites),
+        steps: sliced / 2,
+        carried: numbers::u32_at(&bench, 7),
+        bound: lugsheet::carried_bound(numbers::u16_at(row, 8)),
+    }
 }
 
 // A row that is taken has at least ten bytes and at most so many cells: the second test refuses nothing.
 fn place(rt: &impl Print, row: &[u8]) -> io::Result<()> {
-    let answer = lugsheet::lugsheet_check(row);
-    if answer >= 9223372036854775808 {
-        return print_refused(rt, answer);
-    }
-    if answer > 256 || row.len() < 10 {
+    let cells = match taken(lugsheet::lugsheet_check(row)) {
+        Ok(cells) => cells,
+        Err(refused) => return println!(rt; "{refused}"),
+    };
+    if cells > 256 || row.len() < 10 {
         return Ok(());
     }
-    let cells = answer as usize;
-    let end = 4 * cells;
-    let mut sites = room();
-    run(rt, row, &mut sites[..end], cells)
-}
-
-// Reads until the input ends or the room is full.
-fn read_row(rt: &impl Input, input: &mut [u8]) -> io::Result<usize>
-    ensures { IfOk result (λ n. n ≤ length input.new) }
-{
-    let mut reader = rt.reader();
-    let mut done = 0;
-    while done < input.len() {
-        let n = reader.read(&mut input[done..])?;
-        if n == 0 {
-            break;
-        }
-        done += n;
-    }
-    Ok(done)
+    let cells = cells as usize;
+    let mut sites = [0; 4 * MOST_CELLS];
+    let sites = &mut sites[..4 * cells];
+    let done = run(row, sites);
+    println!(rt; "{done}")?;
+    print_cells(rt, sites, cells)
 }
 
 fn main(rt: HostRuntime) -> io::Result<()> {
-    let mut input = [0u8; MOST_BYTES];
-    let n = read_row(&rt, &mut input)?;
-    place(&rt, &input[..n])
+    let mut row = Vec::new(rt.alloc());
+    rt.reader().take(MOST_BYTES).read_to_end(&mut row)?;
+    place(&rt, &row)
 }

@@ -4,7 +4,7 @@ use Rattle.std.specs.Int.Signed.{le_z}
 use Rattle.numbers.specs.Signed.{above, below}
 use Rattle.rules.specs.Row.{Pin, fixed, on, Net, counted}
 use Rattle.rules.specs.Length.{leftmost, rightmost}
-pub use Rattle.rules.specs.declared.Change.{Change}
+use Rattle.rules.specs.declared.Change.{Change}
 
 -- the fixed pins of a list, the cells that it names, and its offsets on one cell
 unfoldable pub fixed_of : List Pin → List ℤ

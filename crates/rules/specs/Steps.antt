@@ -2,7 +2,8 @@
 use Rattle.std.specs.Prelude.{ℕ, zero, suc, ◌+◌, ◌-◌, ◌*◌, min, max, List, [], ◌∷◌, ◌++◌, map, Bool, false, cond, length, get_or, ltb, leb, pos, ◌-ℤ◌}
 use Rattle.numbers.specs.Log.{whole_log}
 use Rattle.rules.specs.Row.{Row}
-use Rattle.rules.specs.Changes.{Change, changes_on, best_left, best_right}
+use Rattle.rules.specs.Changes.{changes_on, best_left, best_right}
+use Rattle.rules.specs.declared.Change.{Change}
 
 -- a clump: how many cells, how wide, its left edge, and its slope changes counted from its left edge
 pub record Clump : Type 0 where

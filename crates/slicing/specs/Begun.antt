@@ -6,7 +6,7 @@ use Rattle.rules.specs.Bench.{in_form}
 use Rattle.changes.specs.declared.Kept.{Kept}
 use Rattle.benches.specs.declared.Saved.{Saved}
 use Rattle.benches.specs.Saved.{settled_of, Tells}
-use Rattle.rules.specs.Changes.{Change}
+use Rattle.rules.specs.declared.Change.{Change}
 use Rattle.changes.specs.declared.Clump.{Clump}
 use Rattle.layout.specs.declared.Place.{Place}
 use Rattle.layout.specs.Columns.{bounds_of, needs_of}

@@ -83,7 +83,7 @@ fn advance(
     bench: &mut [u8],
 ) -> Sliced
     requires { (length bench.old ≡ bench_size) × ((R : Row) × Begins R bench.old saved row.width (seen row) (lists_of clumps.old keys.old)) }
-    ensures { (R : Row) → Begins R bench.old saved row.width (seen row) (lists_of clumps.old keys.old) → Advanced R budget bench.old bench.new result }
+    ensures { (R : Row) → Begins R bench.old saved row.entry.width (seen row.entry) (lists_of clumps.old keys.old) → Advanced R budget bench.old bench.new result }
 {
     let from = begin(saved, clumps);
     let ran = resume(from, budget, row, clumps, keys);
@@ -107,7 +107,7 @@ pub fn slice(
 ) -> Result<Sliced, Refusal>
     requires bench_len { (length bench.old ≡ bench_size) × ((R : Row) × Holds sheet.width sheet.widths.now sheet.nets.now R) }
     requires lent { Lent (length sheet.widths.now) (length sheet.nets.now) places.old changes.old clumps.old keys.old }
-    ensures { (R : Row) → Holds sheet.width sheet.widths.now sheet.nets.now R → SlicedAs R budget bench.old bench.new result }
+    ensures { (R : Row) → Holds sheet.entry.width sheet.entry.widths.now sheet.entry.nets.now R → SlicedAs R budget bench.old bench.new result }
 {
     let places = &mut places[..sheet.widths.len() + 1];
     lay_starts(sheet.widths, places);

@@ -1,21 +1,22 @@
 -- Which refusals reading can give (document 01, "What the broker calls"): one record 1, 2, 4 or 5, a whole row 3 and 6 besides; and their places
 -- stay small, since every record is counted once.
-use Rattle.std.specs.Prelude.{ℕ, zero, suc, ◌+◌, ◌^◌, ◌<◌, ◌≡◌, refl, Bool, true, false, cond, ◌&&◌, length, get_or, drop, leb, ltb, eqb, pos, neg_ℤ}
+use Rattle.std.specs.Prelude.{ℕ, zero, suc, ◌+◌, ◌^◌, ◌<◌, ◌≡◌, refl, Bool, true, false, cond, ◌&&◌, length, get_or, drop, leb, ltb, eqb, pos, neg_ℤ, Option, Some, None, Result, Ok, Err, IfErr}
 use mathlib.Core.List.Memᴰ.{head as here}
 use mathlib.Core.List.Memᴰ.{tail as there}
 use mathlib.Core.List.{List, reverse, Memᴰ as In}
 use Rattle.std.proofs.Common.{arith}
+use Rattle.std.proofs.lemmas.Result.{IfErr-at_err}
 use Rattle.std.specs.Int.Signed.{le_z}
 use Rattle.numbers.specs.Bytes.{u16_at, u32_at, i32_at}
 use Rattle.rules.specs.Sizes.{widest, most_cells, most_nets, heaviest, most_pins}
-use Rattle.rules.specs.Records.{Reading, mark_of, size_of, allowed, closes, lonely, ranged, fields, marked, record_at, takes}
+use Rattle.rules.specs.Records.{Reading, mark_of, size_of, allowed, closes, lonely, ranged, fields, marked, with_mark, record_at, takes}
 use Rattle.rules.specs.Reading.{Read, taken, refused, start, after, total, ended, by_record, read_up_to, read_from, read_row}
 use Rattle.rules.specs.declared.Refusal.{Refusal}
 use Rattle.rules.specs.declared.Refusal.TheVariants.{Cut, WrongMark, Tail, Range, Lonely, Full}
 use Rattle.rules.specs.declared.Mark.{Mark}
-use Rattle.rules.specs.declared.Mark.TheVariants.{RowMark, CellMark, NetMark, FixedMark, PinMark, EndMark, NoMark}
+use Rattle.rules.specs.declared.Mark.TheVariants.{RowMark, CellMark, NetMark, FixedMark, PinMark, EndMark}
 use Rattle.rules.specs.declared.Record.{Record}
-use Rattle.rules.specs.declared.Record.TheVariants.{Rw, Ce, Nt, Fp, Mp, En, Refused}
+use Rattle.rules.specs.declared.Record.TheVariants.{Rw, Ce, Nt, Fp, Mp, En}
 use Rattle.records.specs.Answers.{answers_may}
 use Rattle.reading.specs.SoundLaws.{Good, start_good, after_good}
 use Rattle.theorems.specs.Terms.{of_row}
@@ -29,49 +30,43 @@ pub data Fault : Refusal → Type 0 where
   lone : Fault Lonely
 
 -- a record that is refused is refused by one of these
-abbrev Faulty : Record → Type 0
-Faulty (Rw w n m) = Unit
-Faulty (Ce w) = Unit
-Faulty (Nt w) = Unit
-Faulty (Fp x) = Unit
-Faulty (Mp i o) = Unit
-Faulty En = Unit
-Faulty (Refused q) = Fault q
-
-by_test : (b : Bool) (x y : Record) → Faulty x → Faulty y → Faulty (cond b x y)
+by_test : (b : Bool) (x y : Result Record Refusal) → IfErr x Fault → IfErr y Fault → IfErr (cond b x y) Fault
 by_test true x y p q = p
 by_test false x y p q = q
 
-by_range : (b : Bool) (r : Record) → Faulty r → Faulty (ranged b r)
-by_range true r p = p
-by_range false r p = range
+by_range : (b : Bool) (r : Record) → IfErr (ranged b r) Fault
+by_range true r = tt
+by_range false r = range
 
-by_fields : (c : Reading) (m : Mark) (s : List ℕ) → Faulty (fields c m s)
+by_fields : (c : Reading) (m : Mark) (s : List ℕ) → IfErr (fields c m s) Fault
 unfolding fields
-by_fields c RowMark s = by_range (leb (u32_at s 2) widest && (leb (u16_at s 6) most_cells && leb (u16_at s 8) most_nets)) (Rw (u32_at s 2) (u16_at s 6) (u16_at s 8)) tt
-by_fields c CellMark s = by_range (leb 1 (u32_at s 2) && leb (u32_at s 2) widest) (Ce (u32_at s 2)) tt
-by_fields c NetMark s = by_range (leb 1 (u32_at s 2) && leb (u32_at s 2) heaviest) (Nt (u32_at s 2)) tt
+by_fields c RowMark s = by_range (leb (u32_at s 2) widest && (leb (u16_at s 6) most_cells && leb (u16_at s 8) most_nets)) (Rw (u32_at s 2) (u16_at s 6) (u16_at s 8))
+by_fields c CellMark s = by_range (leb 1 (u32_at s 2) && leb (u32_at s 2) widest) (Ce (u32_at s 2))
+by_fields c NetMark s = by_range (leb 1 (u32_at s 2) && leb (u32_at s 2) heaviest) (Nt (u32_at s 2))
 by_fields c FixedMark s =
-    by_range (ltb c.pins most_pins && (le_z (neg_ℤ (pos widest)) (i32_at s 2) && le_z (i32_at s 2) (pos widest))) (Fp (i32_at s 2)) tt
+    by_range (ltb c.pins most_pins && (le_z (neg_ℤ (pos widest)) (i32_at s 2) && le_z (i32_at s 2) (pos widest))) (Fp (i32_at s 2))
 by_fields c PinMark s =
-    by_range (ltb c.pins most_pins && (ltb (u16_at s 2) c.head.cells && leb (u32_at s 4) (get_or c.widths (u16_at s 2) 0))) (Mp (u16_at s 2) (u32_at s 4)) tt
+    by_range (ltb c.pins most_pins && (ltb (u16_at s 2) c.head.cells && leb (u32_at s 4) (get_or c.widths (u16_at s 2) 0))) (Mp (u16_at s 2) (u32_at s 4))
 by_fields c EndMark s = tt
-by_fields c NoMark s = mark
 
-faulty : (c : Reading) (s : List ℕ) → Faulty (record_at c s)
-unfolding record_at marked
+by_mark : (c : Reading) (o : Option Mark) (s : List ℕ) → IfErr (with_mark c o s) Fault
+unfolding marked
+by_mark c (Some m) s =
+    let body = cond (leb (size_of m) (length s)) (fields c m s) (Err Cut) in
+    let closed = cond (closes m && lonely c.nets) (Err Lonely) body in
+    by_test (allowed c m) closed (Err WrongMark)
+    (by_test (closes m && lonely c.nets) (Err Lonely) body lone (by_test (leb (size_of m) (length s)) (fields c m s) (Err Cut) (by_fields c m s) cut))
+    mark
+by_mark c None s = mark
+
+faulty : (c : Reading) (s : List ℕ) → IfErr (record_at c s) Fault
+unfolding record_at
 faulty c s =
-    let m = mark_of (u16_at s 0) in
-    let body = cond (leb (size_of m) (length s)) (fields c m s) (Refused Cut) in
-    let closed = cond (closes m && lonely c.nets) (Refused Lonely) body in
-    by_test (leb 2 (length s)) (cond (allowed c m) closed (Refused WrongMark)) (Refused Cut)
-    (by_test (allowed c m) closed (Refused WrongMark)
-    (by_test (closes m && lonely c.nets) (Refused Lonely) body lone (by_test (leb (size_of m) (length s)) (fields c m s) (Refused Cut) (by_fields c m s) cut))
-    mark)
-    cut
+    let o = mark_of (u16_at s 0) in
+    by_test (leb 2 (length s)) (with_mark c o s) (Err Cut) (by_mark c o s) cut
 
-pub record_fault : (c : Reading) (s : List ℕ) (q : Refusal) → record_at c s ≡ Refused q → Fault q
-record_fault c s q is = rw is at (faulty c s)
+pub record_fault : (c : Reading) (s : List ℕ) (q : Refusal) → record_at c s ≡ Err q → Fault q
+record_fault c s q is = IfErr-at_err Fault is (faulty c s)
 
 -- ---- a whole row
 
@@ -105,22 +100,22 @@ ended_well c s g =
     (there (there (there (there (there (here refl))))), omega (arith, small_place c g)))
     (there (there (here refl)), small_place c g)
 
-by_record_well : (c : Reading) (s : List ℕ) (r : Record) (next : Read) → Good c → Faulty r → ReadWell next → ReadWell (by_record c s r next)
-by_record_well c s (Rw w n m) next g f h = h
-by_record_well c s (Ce w) next g f h = h
-by_record_well c s (Nt w) next g f h = h
-by_record_well c s (Fp x) next g f h = h
-by_record_well c s (Mp i o) next g f h = h
-by_record_well c s En next g f h = ended_well c (drop 2 s) g
-by_record_well c s (Refused q) next g f h = (fault_listed f, omega (arith, small_place c g))
+by_record_well : (c : Reading) (s : List ℕ) (a : Result Record Refusal) (next : Record → Read) → Good c → IfErr a Fault
+    → ((r : Record) → a ≡ Ok r → ReadWell (next r)) → ReadWell (by_record c s a next)
+by_record_well c s (Ok (Rw w n m)) next g f h = h (Rw w n m) refl
+by_record_well c s (Ok (Ce w)) next g f h = h (Ce w) refl
+by_record_well c s (Ok (Nt w)) next g f h = h (Nt w) refl
+by_record_well c s (Ok (Fp x)) next g f h = h (Fp x) refl
+by_record_well c s (Ok (Mp i o)) next g f h = h (Mp i o) refl
+by_record_well c s (Ok En) next g f h = ended_well c (drop 2 s) g
+by_record_well c s (Err q) next g f h = (fault_listed f, omega (arith, small_place c g))
 
 up_to_well : (left : ℕ) (c : Reading) (s : List ℕ) → Good c → ReadWell (read_up_to left c s)
 unfolding read_up_to
 up_to_well zero c s g = (here refl, omega (arith, small_place c g))
 up_to_well (suc left) c s g =
-    let r = record_at c s in
-    let t = drop (takes r) s in
-    by_record_well c s r (read_up_to left (after c r) t) g (faulty c s) (up_to_well left (after c r) t (after_good c r g (answers_may c s)))
+    by_record_well c s (record_at c s) (λ r. read_up_to left (after c r) (drop (takes r) s)) g (faulty c s)
+    (λ r is. up_to_well left (after c r) (drop (takes r) s) (after_good c r g (answers_may c s r is)))
 
 pub read_well : (s : List ℕ) → ReadWell (read_row s)
 unfolding read_row read_from

@@ -1,6 +1,6 @@
 -- Too full (demand 2): well-formed bytes are taken where their row has a legal placement, and refused with 6 where it has none; and bytes that
 -- are taken, or refused with 6, are well-formed.
-use Rattle.std.specs.Prelude.{ℕ, zero, suc, ◌≤◌, ◌<◌, ◌≡◌, refl, List, [], ◌∷◌, reverse, Bool, true, false, length, drop}
+use Rattle.std.specs.Prelude.{ℕ, zero, suc, ◌≤◌, ◌<◌, ◌≡◌, refl, List, [], ◌∷◌, reverse, Bool, true, false, length, drop, Result, Ok, Err}
 use Rattle.std.proofs.Common.{sym, ap, ◌∙◌, arith, le-leb, ne_eqb}
 use Rattle.std.proofs.lemmas.Bool.{lt-leb}
 use Rattle.rules.specs.Row.{Row}
@@ -9,7 +9,7 @@ use Rattle.rules.specs.Reading.{Read, taken, refused, start, after, total, ended
 use Rattle.rules.specs.declared.Refusal.{Refusal}
 use Rattle.rules.specs.declared.Refusal.TheVariants.{Cut, WrongMark, Tail, Range, Lonely, Full, Room, WrongBench, Unfinished, Overlap}
 use Rattle.rules.specs.declared.Record.{Record}
-use Rattle.rules.specs.declared.Record.TheVariants.{Rw, Ce, Nt, Fp, Mp, En, Refused}
+use Rattle.rules.specs.declared.Record.TheVariants.{Rw, Ce, Nt, Fp, Mp, En}
 use Rattle.reading.specs.ReadingLaws.{goes_on, read_more, read_end}
 use Rattle.theory.specs.Order.{by_order}
 use Rattle.theorems.specs.LegalReach.{no_truth}
@@ -22,19 +22,18 @@ row_of e = record { width = e.head.width; widths = e.widths; nets = reverse e.ne
 
 -- ---- forwards
 
--- a record is followed by others where it is neither EN nor refused
-goes_on_lem : (r : Record) → (r ≡ En → ⊥) → ((q : Refusal) → r ≡ Refused q → ⊥) → goes_on r ≡ true
-goes_on_lem (Rw w n m) e q = refl
-goes_on_lem (Ce w) e q = refl
-goes_on_lem (Nt w) e q = refl
-goes_on_lem (Fp x) e q = refl
-goes_on_lem (Mp i o) e q = refl
-goes_on_lem En e q = absurd (e refl)
-goes_on_lem (Refused p) e q = absurd (q p refl)
+-- a record is followed by others where it is not EN
+goes_on_lem : (r : Record) → (r ≡ En → ⊥) → goes_on r ≡ true
+goes_on_lem (Rw w n m) e = refl
+goes_on_lem (Ce w) e = refl
+goes_on_lem (Nt w) e = refl
+goes_on_lem (Fp x) e = refl
+goes_on_lem (Mp i o) e = refl
+goes_on_lem En e = absurd (e refl)
 
 formed_reads : {e c : Reading} {s : List ℕ} → Formed e c s → read_from c s ≡ ended e []
 formed_reads {e} (ends {c} {s} is none same) = read_end c s is ∙ ap (ended c) none ∙ ap (λ (d : Reading). ended d []) same
-formed_reads {e} (goes {c} {s} r is not_end not_refused f) = read_more c s r is (goes_on_lem r not_end not_refused) ∙ formed_reads f
+formed_reads {e} (goes {c} {s} r is not_end f) = read_more c s r is (goes_on_lem r not_end) ∙ formed_reads f
 
 ends_fit : (e : Reading) → total e.widths ≤ e.head.width → ended e [] ≡ taken (row_of e)
 unfolding ended
@@ -88,35 +87,33 @@ not_full lone e = no_truth e
 EndsWith : Reading → List ℕ → Read → Type 0
 EndsWith c s x = (e : Reading) × (Formed e c s × (x ≡ ended e []))
 
-by_end : (c : Reading) (s t : List ℕ) → record_at c s ≡ En → drop 2 s ≡ t → late (ended c t) ≡ true → EndsWith c s (ended c t)
+by_end : (c : Reading) (s t : List ℕ) → record_at c s ≡ Ok En → drop 2 s ≡ t → late (ended c t) ≡ true → EndsWith c s (ended c t)
 unfolding ended EndsWith
 by_end c s [] is none h = (c, (ends is none refl, refl))
 by_end c s (x ∷ xs) is none h = absurd (no_truth (rw (ne_eqb (suc (length xs)) 0 (λ (e : suc (length xs) ≡ 0). omega arith)) at h))
 
-by_more : (c : Reading) (s : List ℕ) (r : Record) (next : Read) → record_at c s ≡ r → goes_on r ≡ true → EndsWith (after c r) (drop (takes r) s) next
+by_more : (c : Reading) (s : List ℕ) (r : Record) (next : Read) → record_at c s ≡ Ok r → goes_on r ≡ true → EndsWith (after c r) (drop (takes r) s) next
     → EndsWith c s next
 unfolding EndsWith
-by_more c s r next is on g =
-    (g.0, (goes r is (λ (e : r ≡ En). no_truth (sym (ap goes_on e) ∙ on)) (λ q (e : r ≡ Refused q). no_truth (sym (ap goes_on e) ∙ on)) g.1.0, g.1.1))
+by_more c s r next is on g = (g.0, (goes r is (λ (e : r ≡ En). no_truth (sym (ap goes_on e) ∙ on)) g.1.0, g.1.1))
 
-by_record_lem : (c : Reading) (s : List ℕ) (r : Record) (next : Read) → record_at c s ≡ r → late (by_record c s r next) ≡ true
-    → (late next ≡ true → EndsWith (after c r) (drop (takes r) s) next) → EndsWith c s (by_record c s r next)
+by_record_lem : (c : Reading) (s : List ℕ) (a : Result Record Refusal) (next : Record → Read) → record_at c s ≡ a → late (by_record c s a next) ≡ true
+    → ((r : Record) → late (next r) ≡ true → EndsWith (after c r) (drop (takes r) s) (next r)) → EndsWith c s (by_record c s a next)
 unfolding EndsWith
-by_record_lem c s (Rw w n m) next is h f = by_more c s (Rw w n m) next is refl (f h)
-by_record_lem c s (Ce w) next is h f = by_more c s (Ce w) next is refl (f h)
-by_record_lem c s (Nt w) next is h f = by_more c s (Nt w) next is refl (f h)
-by_record_lem c s (Fp x) next is h f = by_more c s (Fp x) next is refl (f h)
-by_record_lem c s (Mp i o) next is h f = by_more c s (Mp i o) next is refl (f h)
-by_record_lem c s En next is h f = by_end c s (drop 2 s) is refl h
-by_record_lem c s (Refused q) next is h f = absurd (not_full (record_fault c s q is) h)
+by_record_lem c s (Ok (Rw w n m)) next is h f = by_more c s (Rw w n m) (next (Rw w n m)) is refl (f (Rw w n m) h)
+by_record_lem c s (Ok (Ce w)) next is h f = by_more c s (Ce w) (next (Ce w)) is refl (f (Ce w) h)
+by_record_lem c s (Ok (Nt w)) next is h f = by_more c s (Nt w) (next (Nt w)) is refl (f (Nt w) h)
+by_record_lem c s (Ok (Fp x)) next is h f = by_more c s (Fp x) (next (Fp x)) is refl (f (Fp x) h)
+by_record_lem c s (Ok (Mp i o)) next is h f = by_more c s (Mp i o) (next (Mp i o)) is refl (f (Mp i o) h)
+by_record_lem c s (Ok En) next is h f = by_end c s (drop 2 s) is refl h
+by_record_lem c s (Err q) next is h f = absurd (not_full (record_fault c s q is) h)
 
 reads_formed : (left : ℕ) (c : Reading) (s : List ℕ) → late (read_up_to left c s) ≡ true → EndsWith c s (read_up_to left c s)
 unfolding read_up_to
 reads_formed zero c s h = absurd (no_truth h)
 reads_formed (suc left) c s h =
-    let r = record_at c s in
-    let t = drop (takes r) s in
-    by_record_lem c s r (read_up_to left (after c r) t) refl h (λ g. reads_formed left (after c r) t g)
+    by_record_lem c s (record_at c s) (λ r. read_up_to left (after c r) (drop (takes r) s)) refl h
+    (λ r g. reads_formed left (after c r) (drop (takes r) s) g)
 
 row_formed : (s : List ℕ) → late (read_row s) ≡ true → EndsWith start s (read_row s)
 unfolding read_row read_from

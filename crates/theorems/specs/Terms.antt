@@ -1,6 +1,6 @@
 -- What the demands speak of, said by the written definitions alone: what a shortest placement is, what a well-formed row is, how many steps are
 -- left, a run of slices through the calls, and how a call may end.
-use Rattle.std.specs.Prelude.{ℕ, zero, suc, ◌+◌, ◌/◌, ◌^◌, ◌≤◌, ◌<◌, ◌≡◌, true, length, get_or, drop}
+use Rattle.std.specs.Prelude.{ℕ, zero, suc, ◌+◌, ◌/◌, ◌^◌, ◌≤◌, ◌<◌, ◌≡◌, true, length, get_or, drop, Ok}
 use mathlib.Core.List.{List, [], ◌∷◌, ◌++◌, reverse, Memᴰ as In}
 use Rattle.rules.specs.Row.{Row}
 use Rattle.rules.specs.Length.{legal, netlength}
@@ -11,7 +11,7 @@ use Rattle.rules.specs.Calls.{Outcome, refuse, fresh_call, slice_call}
 use Rattle.rules.specs.declared.Refusal.{Refusal}
 use Rattle.rules.specs.declared.Refusal.TheVariants.{Cut, WrongMark, Tail, Range, Lonely, Full, Room, WrongBench, Unfinished, Overlap}
 use Rattle.rules.specs.declared.Record.{Record}
-use Rattle.rules.specs.declared.Record.TheVariants.{En, Refused}
+use Rattle.rules.specs.declared.Record.TheVariants.{En}
 
 -- ---- demand 2
 
@@ -23,9 +23,8 @@ pub record LeftmostShortest (R : Row) (ps : List ℕ) : Type 0 where
 
 -- reading on from c, no record of these bytes is refused, until EN stands where it may, nothing follows it, and e has been read
 pub data Formed (e : Reading) : Reading → List ℕ → Type 0 where
-  ends : {c : Reading} {s : List ℕ} → record_at c s ≡ En → drop 2 s ≡ [] → c ≡ e → Formed e c s
-  goes : {c : Reading} {s : List ℕ} (r : Record) → record_at c s ≡ r → (r ≡ En → ⊥) → ((q : Refusal) → r ≡ Refused q → ⊥)
-      → Formed e (after c r) (drop (takes r) s) → Formed e c s
+  ends : {c : Reading} {s : List ℕ} → record_at c s ≡ Ok En → drop 2 s ≡ [] → c ≡ e → Formed e c s
+  goes : {c : Reading} {s : List ℕ} (r : Record) → record_at c s ≡ Ok r → (r ≡ En → ⊥) → Formed e (after c r) (drop (takes r) s) → Formed e c s
 
 -- well-formed bytes, whether the cells fit or not: the row that they say, and the place of EN
 pub record WellFormed (s : List ℕ) (R : Row) (place : ℕ) : Type 0 where

@@ -1,53 +1,56 @@
 -- `load`: the head, then the zero bytes, then the clumps; what is not in form is answered so as soon as it is seen.
-use Rattle.std.proofs.Common.{◌≡◌, ◌+◌, ◌*◌, ℕ, refl, sym, ap, ◌∙◌, drop, arith}
-use Rattle.rules.specs.Sizes.{head_size, part_size}
-use Rattle.rules.specs.Bench.{saved_hand, saved_clumps, all_zero}
-use Rattle.benches.specs.declared.Saved.{Saved}
+use Rattle.std.proofs.Common.{◌≡◌, ◌-◌, ℕ, List, [], sym, ◌∙◌, length, arith}
+use Rattle.rules.specs.Row.{Row}
+use Rattle.rules.specs.Bench.{saved_hand}
+use Rattle.layout.specs.Columns.{starts_of}
+use Rattle.layout.specs.declared.Place.{Place}
+use Rattle.benches.specs.Saved.{Told}
 use Rattle.benches.specs.FitsLaws.{Head, head_told}
-use Rattle.benches.specs.LoadLaws.{hand_is, refused_head, refused_zeros, loaded}
-use Rattle.benches.proofs.load.Goals.{Else-not-head_fits, After-zero_from}
+use Rattle.benches.specs.ColumnLaws.{starts_length}
+use Rattle.benches.specs.LoadLaws.{hand_is, refused_head, refused_zeros, refused_parts, loaded}
+use Rattle.benches.proofs.load.Goals.{Then-head_fits}
+use Rattle.benches.proofs.load.Goals.{else-head_fits-via-then-head_fits+then-zero_from+else-parts_fit, else-head_fits-via-then-head_fits+else-zero_from, else-head_fits-via-else-head_fits}
 use Rattle.benches.proofs.load.Goals as goal
 
-pub returns-then-not-head_fits-clause-loaded : goal.returns-then-not-head_fits-clause-loaded
-returns-then-not-head_fits-clause-loaded c R t =
-    refused_head R c.args.bench.now c.args.cells.now c.args.edges.now c.head_of-head.result (ap (λ (x : Saved). x.formed) c.head_of-head.ensures)
-    c.args.count t.many (sym c.head_fits.ensures ∙ c.if-not-head_fits.true)
-
 -- the head is within its limits
-head-holds : (c : Else-not-head_fits) → Head c.args.count c.args.bench.now
-head-holds c = head_told _ _ (sym c.head_fits.ensures ∙ c.if-not-head_fits.false)
+head_holds : (c : Then-head_fits) → Head (length c.args.places.now - 1) c.args.bench.now
+head_holds c = head_told _ _ (sym c.head_fits.ensures ∙ c.if-head_fits.true)
 
-clumps_are : (c : Else-not-head_fits) → c.head_of-head.result.clumps ≡ saved_clumps c.args.bench.now
-clumps_are c = ap (λ (x : Saved). x.clumps) c.head_of-head.ensures
+-- a place for each cell and one past the last
+cells_are : (R : Row) (width : ℕ) (places : List Place) → Told R width (starts_of places) → length places - 1 ≡ length R.widths
+cells_are R width places t = omega (arith, t.many, starts_length places)
 
 pub zero_from-requires : goal.zero_from-requires
-zero_from-requires c =
-    let d = (goal.at.zero_from-requires c).Else-not-head_fits in
-    (c.requires.bench_len.0, omega (arith, clumps_are d, (head-holds d).few))
+zero_from-requires c = rw c.read-head.ensures (omega (arith, (head_holds (goal.at.zero_from-requires c).Then-head_fits).few))
 
-zeros_are : (c : After-zero_from) → let s = c.args.bench.now in c.zero_from.result ≡ all_zero (drop (head_size + part_size * saved_clumps s) s)
-zeros_are c =
-    let s = c.args.bench.now in
-    c.zero_from.ensures ∙ ap (λ (n : ℕ). all_zero (drop (head_size + part_size * n) s)) (ap (λ (x : Saved). x.clumps) c.head_of-head.ensures)
+pub parts_fit-requires-clause-clumps_le_most_cells : goal.parts_fit-requires-clause-clumps_le_most_cells
+parts_fit-requires-clause-clumps_le_most_cells c =
+    let h = head_holds (goal.at.parts_fit-requires-clause-clumps_le_most_cells c).Then-head_fits in
+    rw c.read-head.ensures (h.few, rw (hand_is (saved_hand c.args.bench.now) h.hand_bit) h.hand_clump)
 
-pub returns-then-not-zero_from-clause-loaded : goal.returns-then-not-zero_from-clause-loaded
-returns-then-not-zero_from-clause-loaded c R t =
-    refused_zeros R c.args.bench.now c.args.cells.now c.args.edges.now c.head_of-head.result (ap (λ (x : Saved). x.formed) c.head_of-head.ensures)
-    (sym (zeros_are (goal.at.returns-then-not-zero_from-clause-loaded c).After-zero_from) ∙ c.if-not-zero_from.true)
+pub parts_fit-requires-clause-opened_le_most_cells : goal.parts_fit-requires-clause-opened_le_most_cells
+parts_fit-requires-clause-opened_le_most_cells c =
+    let h = head_holds (goal.at.parts_fit-requires-clause-opened_le_most_cells c).Then-head_fits in
+    rw c.read-head.ensures (omega (arith, h.within), omega (arith, h.within), omega (arith, h.within))
 
-pub parts_of-requires-clause-clumps_le_most_cells : goal.parts_of-requires-clause-clumps_le_most_cells
-parts_of-requires-clause-clumps_le_most_cells c =
-    let h = head-holds (goal.at.parts_of-requires-clause-clumps_le_most_cells c).Else-not-head_fits in
-    rw c.head_of-head.ensures (h.few, rw (hand_is (saved_hand c.args.bench.now) h.hand_bit) h.hand_clump, refl)
-
-pub parts_of-requires-clause-opened_le_most_cells : goal.parts_of-requires-clause-opened_le_most_cells
-parts_of-requires-clause-opened_le_most_cells c =
-    let h = head-holds (goal.at.parts_of-requires-clause-opened_le_most_cells c).Else-not-head_fits in
-    rw c.head_of-head.ensures (omega (arith, h.within), omega (arith, h.within), omega (arith, h.within), omega (arith, h.within))
+pub returns-then-parts_fit-clause-loaded : goal.returns-then-parts_fit-clause-loaded
+returns-then-parts_fit-clause-loaded c R t =
+    let a = c.args in
+    let h = head_holds (goal.at.returns-then-parts_fit-clause-loaded c).Then-head_fits in
+    loaded R a.bench.now c.read-head.result c.read-head.ensures _ (cells_are R a.width a.places.now t) _ _ a.width (starts_of a.places.now) t h
+    (sym c.zero_from.ensures ∙ c.if-zero_from.true) _ c.parts_fit.ensures.parted c.if-parts_fit.true
 
 pub returns-clause-loaded : goal.returns-clause-loaded
 returns-clause-loaded c R t =
-    let p = goal.at.returns-clause-loaded c in
-    loaded R c.args.bench.now c.args.width c.args.count c.args.starts.now _ _ t
-    (head-holds p.Else-not-head_fits) (sym (zeros_are p.After-zero_from) ∙ c.if-not-zero_from.false)
-    c.head_of-head.result c.parts_of.result c.head_of-head.ensures c.parts_of.ensures.parted
+    let a = c.args in
+    let many = cells_are R a.width a.places.now t in
+    elim c.else-head_fits.branch [
+      | else-head_fits-via-then-head_fits+then-zero_from+else-parts_fit w ↦
+          refused_parts R a.bench.now c.read-head.result c.read-head.ensures _ many _ _ a.width (starts_of a.places.now) t
+          (head_told _ _ (sym c.head_fits.ensures ∙ w.if-head_fits.true))
+          (sym w.zero_from.ensures ∙ w.if-zero_from.true) _ w.parts_fit.ensures.parted w.if-parts_fit.false
+      | else-head_fits-via-then-head_fits+else-zero_from w ↦
+          refused_zeros R a.bench.now c.read-head.result c.read-head.ensures _ many [] [] (sym w.zero_from.ensures ∙ w.if-zero_from.false)
+      | else-head_fits-via-else-head_fits w ↦
+          refused_head R a.bench.now c.read-head.result c.read-head.ensures _ many [] [] (sym c.head_fits.ensures ∙ w.if-head_fits.false)
+    ]

@@ -1,39 +1,33 @@
 -- `store`: one clump more is written over what stood there; and at the end what is written is the bench that was handed over.
-use Rattle.std.proofs.Common.{◌≡◌, ◌+◌, ◌*◌, ℕ, List, cond, sym, ap, ◌∙◌, get_or, replicate, arith}
-use Rattle.rules.specs.Sizes.{most_cells, head_size, part_size}
+use Rattle.std.proofs.Common.{◌≡◌, ◌*◌, ℕ, cond, length, sym, ap, ◌∙◌, replicate, arith}
+use Rattle.rules.specs.Sizes.{most_cells, part_size}
+use Rattle.changes.specs.Columns.{cells_of, edges_of}
 use Rattle.benches.specs.Saved.{head_bytes}
-use Rattle.benches.specs.StoreLaws.{put16, put32, head_length, stored, stored_none, stored_more, written}
+use Rattle.benches.specs.ColumnLaws.{cells_at, edges_at}
+use Rattle.benches.specs.StoreLaws.{head_length, stored, stored_none, stored_more, written}
 use Rattle.benches.proofs.store.Goals as goal
 
 pub loop-k-init : goal.loop-k-init
-loop-k-init c = (
-  omega arith,
-  omega arith,
-  λ head tail h e. e ∙ sym (stored_none c.args.cells.now c.args.edges.now head tail),
-)
+loop-k-init c = (omega arith, c.store_head.ensures ∙ sym (stored_none _ _ _ _))
 
 pub loop-k-preserved : goal.loop-k-preserved
 loop-k-preserved c =
+    let a = c.args in
     let l = c.loop-k in
-    let cells = c.args.cells.now in
-    let edges = c.args.edges.now in
-    let at = head_size + part_size * l.k in (
+    let clumps = a.clumps.now in (
       omega arith,
-      omega arith,
-      λ head tail h e.
-          c.put_u32.ensures
-          ∙ ap (λ (b : List ℕ). put32 (at + 2) (get_or edges l.k 0) b) c.put_u16.ensures
-          ∙ ap (λ (b : List ℕ). put32 (at + 2) (get_or edges l.k 0) (put16 at (get_or cells l.k 0) b)) (l.invariant.2 head tail h e)
-          ∙ stored_more cells edges head tail l.k h,
+      stored_more _ _ _ _ l.k _ _ _ _ _ (head_length a.opened (cond a.held 1 0) (length clumps) a.carried.0) l.invariant.1
+          (cells_at clumps l.k) (edges_at clumps l.k) c.put_u16.ensures c.put_u32.ensures,
     )
 
 pub returns : goal.returns
 returns c b w =
     let a = c.args in
     let l = c.loop-k in
-    let e : l.k ≡ a.clumps = omega arith in
-    let head = head_bytes a.opened (cond a.held 1 0) a.clumps a.carried.0 in
-    let long = head_length a.opened (cond a.held 1 0) a.clumps a.carried.0 in
-    l.invariant.2 head (replicate (part_size * most_cells) 0) long c.store_head.ensures
-    ∙ ap (λ (k : ℕ). stored a.cells.now a.edges.now head (replicate (part_size * most_cells) 0) k) e
-    ∙ written a.opened a.held a.clumps a.carried.0 a.cells.now a.edges.now b w
+    let n = length a.clumps.now in
+    let e : l.k ≡ n = omega arith in
+    let cells = cells_of a.clumps.now in
+    let edges = edges_of a.clumps.now in
+    l.invariant.1
+    ∙ ap (λ (k : ℕ). stored cells edges (head_bytes a.opened (cond a.held 1 0) n a.carried.0) (replicate (part_size * most_cells) 0) k) e
+    ∙ written a.opened a.held n a.carried.0 cells edges b w

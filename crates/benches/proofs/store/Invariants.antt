@@ -1,14 +1,12 @@
--- `store`: behind the head, whatever it is, stand the first k clumps, and behind them what stood there before.
-use Rattle.std.proofs.Common.{◌≡◌, ◌-◌, ◌≤◌, ◌++◌, List, ℕ, length}
-use Rattle.rules.specs.Sizes.{head_size, bench_size}
+-- `store`: behind the head stand the first k clumps, and behind them zeros.
+use Rattle.std.proofs.Common.{◌≡◌, ◌*◌, cond, length, replicate}
+use Rattle.rules.specs.Sizes.{most_cells, part_size, bench_size}
+use Rattle.changes.specs.Columns.{cells_of, edges_of}
+use Rattle.benches.specs.Saved.{head_bytes}
 use Rattle.benches.specs.StoreLaws.{stored}
 use Rattle.benches.proofs.store.Given as goal
 
 abbrev pub invariant-loop-k : goal.invariant-loop-k
 invariant-loop-k l =
-    (l.k ≤ l.clumps)
-    × (length l.bench ≡ bench_size)
-    × ((head tail : List ℕ) → length head ≡ head_size → l.initial.bench ≡ head ++ tail → l.bench ≡ stored l.cells l.edges head tail l.k)
-
-abbrev pub decreases-loop-k : goal.decreases-loop-k
-decreases-loop-k l = l.clumps - l.k
+    (length l.bench ≡ bench_size)
+    × (l.bench ≡ stored (cells_of l.clumps) (edges_of l.clumps) (head_bytes l.opened (cond l.held 1 0) (length l.clumps) l.fn.carried.0) (replicate (part_size * most_cells) 0) l.k)
