@@ -13,9 +13,11 @@ use Rattle.std.proofs.lemmas.List.{take_more, take_all, take-append-drop}
 use native.Mathlib.Omega.{arith}
 use Rattle.std.proofs.Math.Dec.{eqb}
 use Rattle.std.specs.Int.{w32, w64}
+use Rattle.std.proofs.Common.{to_z, of_z}
+use Rattle.std.proofs.lemmas.Int.{to_z-of_z}
 use borrow.Author.Tests.{eqb-true, ne_eqb}
 use Rattle.numbers.specs.Signed.{above, below}
-use Rattle.numbers.specs.SignedLaws.{one_part, neg_above, neg_below, sub_parts, fits32, fits64, sfits_parts}
+use Rattle.numbers.specs.SignedLaws.{one_part, neg_above, neg_below, sub_parts, fits32, fits64, sfits_parts, zero_minus}
 use Rattle.numbers.specs.Sums.{sum_to}
 use Rattle.rules.specs.Sizes.{widest, heaviest}
 use Rattle.rules.specs.Row.{Row, Net as Listed}
@@ -26,7 +28,7 @@ use Rattle.slopes.specs.Sizes.{need, need_of}
 use Rattle.slopes.specs.Joined.{changes_of}
 use Rattle.nets.specs.declared.Net.{Net}
 use Rattle.nets.specs.Summary.{summary, nothing}
-use Rattle.layout.specs.Kept.{left_kept, right_kept, on_cell, kept_on, Near, Nets}
+use Rattle.layout.specs.Kept.{left_kept, right_kept, on_cell, kept_on, Near, Ranged, Nets}
 use Rattle.layout.specs.Shared.{held_to, need_to}
 
 -- ---- they are the row's
@@ -178,7 +180,37 @@ near_fits_twice x o p n h g =
     (λ (e : below z ≡ 0). fits32 z (omega (arith, sub_parts x (pos o), sub_parts (x -ℤ pos o) (pos p))) (omega arith))
     (one_part z)
 
+-- ---- a net's changes, from its numbers as they are passed
+
 -- minus a weight
 pub negative_fits : (w : ℕ) → SFits w64 (pos w) → SFits w64 (neg_ℤ (pos w))
 negative_fits w f =
     fits64 (neg_ℤ (pos w)) (omega (arith, neg_above (pos w))) (omega (arith, neg_below (pos w), (sfits_parts w64 (pos w) f).0))
+
+weight_fits : (w : ℕ) → w ≤ heaviest → SFits w64 (pos w)
+weight_fits w h = fits64 (pos w) (omega arith) (omega arith)
+
+passed_fixed : (x : ℤ) → Near x → to_z w32 (of_z w32 x) ≡ x
+passed_fixed x n = to_z-of_z w32 x (fits32 x (omega arith) (omega arith))
+
+module _ {cells : ℕ} (n : Net) (ranged : Ranged cells n) (weight : ℤ) (is : weight ≡ pos n.weight.0) where
+  pub left_passed : {c : Change}
+      → c ≡ record { at = to_z w32 (of_z w32 n.fl) -ℤ pos n.onleft; slope = to_z w64 (of_z w64 (pos 0 -ℤ to_z w64 (of_z w64 weight))) }
+      → c ≡ left_kept n
+  left_passed e =
+      let fits = weight_fits n.weight.0 ranged.light in
+      e
+      ∙ rw (
+        passed_fixed n.fl ranged.left_fixed,
+        is,
+        to_z-of_z w64 (pos n.weight.0) fits,
+        zero_minus (pos n.weight.0),
+        to_z-of_z w64 (neg_ℤ (pos n.weight.0)) (negative_fits n.weight.0 fits),
+      )
+      refl
+
+  pub right_passed : {c : Change}
+      → c ≡ record { at = to_z w32 (of_z w32 n.fr) -ℤ pos n.onright; slope = to_z w64 (of_z w64 weight) }
+      → c ≡ right_kept n
+  right_passed e =
+      e ∙ rw (passed_fixed n.fr ranged.right_fixed, is, to_z-of_z w64 (pos n.weight.0) (weight_fits n.weight.0 ranged.light)) refl

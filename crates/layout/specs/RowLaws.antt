@@ -21,7 +21,7 @@ use Rattle.rules.specs.Steps.{moved}
 use Rattle.slopes.specs.Tally.{tally_of, tally_append, tally_moved}
 use Rattle.slopes.specs.Joined.{changes_of}
 use Rattle.slopes.specs.Frame.{packed, packed_suc, packed_most, framed, framed_none, framed_suc}
-use Rattle.slopes.specs.Stretches.{stretch_of, stretch_none, stretch_add, stretch_sum}
+use Rattle.slopes.specs.Stretches.{change_at, stretch_of, stretch_none, stretch_add, stretch_sum}
 use Rattle.nets.specs.declared.Net.{Net}
 use Rattle.nets.specs.Summary.{summary, nothing}
 use Rattle.nets.specs.Span.{Tied}
@@ -96,9 +96,9 @@ module _ {R : Row} {ns : List Net} {cells : ℕ} (n : Nets R ns cells) where
   pub needed_of_row : {needs : List ℕ} → Needed (λ i. kept_on i ns) cells needs → Needed (changes_of R) cells needs
   needed_of_row {needs} h = subst (λ (D : ℕ → List Change). Needed D cells needs) (changes_kept n) h
 
-  pub laid_of_row : {places held : List ℕ} {xs ws : List ℤ} → Laid (λ i. kept_on i ns) cells places held xs ws
-      → Laid (changes_of R) cells places held xs ws
-  laid_of_row {places} {held} {xs} {ws} h = subst (λ (D : ℕ → List Change). Laid D cells places held xs ws) (changes_kept n) h
+  pub laid_of_row : {places held : List ℕ} {cs : List Change} → Laid (λ i. kept_on i ns) cells places held cs
+      → Laid (changes_of R) cells places held cs
+  laid_of_row {places} {held} {cs} h = subst (λ (D : ℕ → List Change). Laid D cells places held cs) (changes_kept n) h
 
 -- ---- the places of its cells
 
@@ -167,15 +167,15 @@ row_light R h m =
 
 -- ---- the stretch of a run of cells, from cell a up to cell b
 
-module _ (R : Row) {cells : ℕ} {places held : List ℕ} {xs ws : List ℤ} (h : Held (changes_of R) cells held) (p : Places R.widths cells places)
-    (laid : Laid (changes_of R) cells places held xs ws) where
+module _ (R : Row) {cells : ℕ} {places held : List ℕ} {cs : List Change} (h : Held (changes_of R) cells held) (p : Places R.widths cells places)
+    (laid : Laid (changes_of R) cells places held cs) where
   abbrev at : ℕ → ℕ
   at i = get_or held i 0
 
-  run_part_from : (a n : ℕ) → a + n ≤ cells → stretch_of xs ws (at a) (at (a + n) - at a) ≡ framed R a n
+  run_part_from : (a n : ℕ) → a + n ≤ cells → stretch_of cs (at a) (at (a + n) - at a) ≡ framed R a n
   run_part_from a zero g =
       let e : at (a + zero) - at a ≡ 0 = let q : a + zero ≡ a = omega arith in rw q (omega arith) in
-      rw (e, framed_none R a) (stretch_none xs ws (at a))
+      rw (e, framed_none R a) (stretch_none cs (at a))
   run_part_from a (suc n) g =
       let q : a + suc n ≡ suc (a + n) = omega arith in
       let rises = held_rises h a (a + n) (omega arith) (omega arith) in
@@ -185,7 +185,7 @@ module _ (R : Row) {cells : ℕ} {places held : List ℕ} {xs ws : List ℤ} (h 
       rw (
         q,
         e,
-        stretch_add xs ws (at a) (at (a + n) - at a) (length (changes_of R (a + n))),
+        stretch_add cs (at a) (at (a + n) - at a) (length (changes_of R (a + n))),
         f,
         run_part_from a n (omega arith),
         framed_suc R a n,
@@ -195,18 +195,18 @@ module _ (R : Row) {cells : ℕ} {places held : List ℕ} {xs ws : List ℤ} (h 
       refl
 
   -- it holds their changes in the one frame
-  pub run_part : (a b : ℕ) → a ≤ b → b ≤ cells → stretch_of xs ws (get_or held a 0) (get_or held b 0 - get_or held a 0) ≡ framed R a (b - a)
+  pub run_part : (a b : ℕ) → a ≤ b → b ≤ cells → stretch_of cs (get_or held a 0) (get_or held b 0 - get_or held a 0) ≡ framed R a (b - a)
   run_part a b l g =
       let n : a + (b - a) ≡ b = omega arith in
-      subst (λ (m : ℕ). stretch_of xs ws (at a) (at m - at a) ≡ framed R a (b - a)) n (run_part_from a (b - a) (omega arith))
+      subst (λ (m : ℕ). stretch_of cs (at a) (at m - at a) ≡ framed R a (b - a)) n (run_part_from a (b - a) (omega arith))
 
   -- which are light
   pub run_weighed : ((t : Listed) → In t R.nets → t.weight ≤ heaviest) → (a b : ℕ) → a ≤ b → b ≤ cells
-      → (k : ℕ) → get_or held a 0 ≤ k → k < get_or held b 0 → nat_abs (get_or ws k (pos 0)) ≤ heaviest
+      → (k : ℕ) → get_or held a 0 ≤ k → k < get_or held b 0 → nat_abs (change_at cs k).slope ≤ heaviest
   unfolding excess
   run_weighed w a b l g k q r =
       let z : tally_of (λ c. excess c.slope) (framed R a (b - a)) ≡ 0 = omega (arith, framed_sum R excess a (b - a), row_light R w (a + (b - a))) in
       let e : at a + (k - at a) ≡ k = omega arith in
-      let s : sum_to (λ i. excess (get_or ws (at a + i) (pos 0))) (at b - at a) ≡ 0 =
-      stretch_sum xs ws (at a) (λ c. excess c.slope) (at b - at a) ∙ ap (tally_of (λ c. excess c.slope)) (run_part a b l g) ∙ z in
-      omega (arith, rw e at (sum_each (λ i. excess (get_or ws (at a + i) (pos 0))) (at b - at a) (k - at a) (omega arith)))
+      let s : sum_to (λ i. excess (change_at cs (at a + i)).slope) (at b - at a) ≡ 0 =
+      stretch_sum cs (at a) (λ c. excess c.slope) (at b - at a) ∙ ap (tally_of (λ c. excess c.slope)) (run_part a b l g) ∙ z in
+      omega (arith, rw e at (sum_each (λ i. excess (change_at cs (at a + i)).slope) (at b - at a) (k - at a) (omega arith)))
