@@ -1,9 +1,11 @@
 -- What a slice of a row that was read answers and leaves (document 01, "What the broker calls", slice), by the bench that the saved bytes stand for.
-use Rattle.std.specs.Prelude.{ℕ, ◌+◌, ◌*◌, ◌≡◌, refl, true, false, List}
+use Rattle.std.specs.Prelude.{ℕ, ◌+◌, ◌*◌, ◌≡◌, refl, true, false, List, Result, Ok, Err}
 use Rattle.rules.specs.Row.{Row}
 use Rattle.rules.specs.Steps.{finished, run, steps_taken}
 use Rattle.rules.specs.Bench.{bench_bytes, bench_of, in_form}
 use Rattle.rules.specs.Calls.{bit, sliced, Outcome}
+use Rattle.rules.specs.declared.Refusal.{Refusal}
+use Rattle.rules.specs.declared.Refusal.TheVariants.{WrongBench}
 use Rattle.slicing.specs.declared.Sliced.{Sliced}
 
 -- of bytes in form: s before, t afterwards
