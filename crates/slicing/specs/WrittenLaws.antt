@@ -153,27 +153,6 @@ module _ (R : Row) (e : Bench) (clumps : List Held) where
         ),
       )
 
-  -- ---- the bench that is written
-
-  pub written_without : (b : Meant) → Stood b → e.first ≡ e.opened → e.settled ≤ length clumps
-      → Written e.opened false (length (take e.settled clumps)) e.carried.0 (cells_of (take e.settled clumps)) (edges_of (take e.settled clumps)) b
-  written_without b n t l =
-      let w = without_hand b n t b.hand refl in
-      first_written b e.opened false e.settled e.carried.0 clumps l
-      (all_written b e.opened false e.settled e.carried.0 _ _ n.opened_is w.0 (n.settled_is ∙ sym w.1) n.carried_is w.2)
-
-  -- with the clump in hand put there
-  pub written_with : (b : Meant) → Stood b → (e.first ≡ e.opened → ⊥) → Saves R clumps → (c : Held) → c.cells ≡ e.opened - e.first → c.edge ≡ 0
-      → e.settled + 1 ≤ length clumps → (cs : List Held) → cs ≡ set clumps e.settled c
-      → Written e.opened true (length (take (e.settled + 1) cs)) e.carried.0 (cells_of (take (e.settled + 1) cs)) (edges_of (take (e.settled + 1) cs)) b
-  written_with b n t v c cells edge l cs put =
-      let w = with_hand_lem b n t v b.hand refl in
-      let listed : Listed (cells_of (set clumps e.settled c)) (edges_of (set clumps e.settled c)) (all_clumps b.hand b.settled) =
-      rw (cells_set clumps e.settled c, edges_set clumps e.settled c, cells, edge) w.2 in
-      rw put
-      (first_written b e.opened true (e.settled + 1) e.carried.0 (set clumps e.settled c) (omega (arith, length-set clumps e.settled c))
-      (all_written b e.opened true (e.settled + 1) e.carried.0 _ _ n.opened_is w.0 (omega (arith, n.settled_is, w.1)) n.carried_is listed))
-
   -- what writing asks of the numbers
   pub left_within : (b : Meant) → Stood b → Saves R clumps → (e.opened ≤ most_cells) × (e.settled ≤ length R.widths)
   left_within b n v = (
@@ -190,6 +169,27 @@ module _ (R : Row) (e : Bench) (clumps : List Held) where
 
   pub hand_within : (b : Meant) → Stood b → (e.first ≡ e.opened → ⊥) → (e.settled < length R.widths) × (e.first ≤ e.opened)
   hand_within b n t = hand_by b n t b.hand refl
+
+  -- ---- the bench that is written
+
+  pub written_without : (b : Meant) → Stood b → e.first ≡ e.opened → Saves R clumps
+      → Written e.opened false (length (take e.settled clumps)) e.carried.0 (cells_of (take e.settled clumps)) (edges_of (take e.settled clumps)) b
+  written_without b n t v =
+      let w = without_hand b n t b.hand refl in
+      first_written b e.opened false e.settled e.carried.0 clumps (omega (arith, (left_within b n v).1, v.clumps_long))
+      (all_written b e.opened false e.settled e.carried.0 _ _ n.opened_is w.0 (n.settled_is ∙ sym w.1) n.carried_is w.2)
+
+  -- with the clump in hand put there
+  pub written_with : (b : Meant) → Stood b → (e.first ≡ e.opened → ⊥) → Saves R clumps → (c : Held) → c.cells ≡ e.opened - e.first → c.edge ≡ 0
+      → (cs : List Held) → cs ≡ set clumps e.settled c
+      → Written e.opened true (length (take (e.settled + 1) cs)) e.carried.0 (cells_of (take (e.settled + 1) cs)) (edges_of (take (e.settled + 1) cs)) b
+  written_with b n t v c cells edge cs put =
+      let w = with_hand_lem b n t v b.hand refl in
+      let listed : Listed (cells_of (set clumps e.settled c)) (edges_of (set clumps e.settled c)) (all_clumps b.hand b.settled) =
+      rw (cells_set clumps e.settled c, edges_set clumps e.settled c, cells, edge) w.2 in
+      rw put
+      (first_written b e.opened true (e.settled + 1) e.carried.0 (set clumps e.settled c) (omega (arith, length-set clumps e.settled c, (hand_within b n t).0, v.clumps_long))
+      (all_written b e.opened true (e.settled + 1) e.carried.0 _ _ n.opened_is w.0 (omega (arith, n.settled_is, w.1)) n.carried_is listed))
 
   -- ---- whether all is done
 
