@@ -42,7 +42,7 @@ widths_near (w ∷ ws) e (suc i) = widths_near ws e.1 i
 
 -- ---- what the row holds
 
-module _ (width : ℕ) (widths : List ℕ) (nets : List Net) (R : Row) (holds : Holds width widths nets R) where
+module _ {width : ℕ} {widths : List ℕ} {nets : List Net} {R : Row} (holds : Holds width widths nets R) where
   as_many : length widths ≡ length R.widths
   as_many = ap length holds.widths_are
 

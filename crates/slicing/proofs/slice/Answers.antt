@@ -1,24 +1,64 @@
-use Rattle.std.proofs.Common.{rules, ◌≡◌, ◌+◌, ◌*◌, ◌≤◌, cond, length, get_or, ◌-◌, ℕ, ◌<◌, ◌/◌, ◌%◌, Bool, true, false, nat_eq, nat_lt, List, [], ◌∷◌, ◌++◌, slice_set, bit_and, bit_or, Fits, w8, w32, w64, Bor, MutBor}
-use Rattle.rules.specs.Sizes.{bench_size}
+-- `slice`: what was read of a row is laid out for the engine, the bench is told in form or not, and what is in form is advanced.
+use Rattle.std.proofs.Common.{◌≡◌, ◌+◌, ℕ, length, take, true, false, arith, refl, sym, ◌∙◌}
+use Rattle.std.proofs.lemmas.List.{length-take-le}
 use Rattle.rules.specs.Row.{Row}
-use Rattle.rules.specs.Steps.{Bench as Meant}
-use Rattle.rules.specs.Bench.{bench_bytes}
-use Rattle.changes.specs.Columns.{cells_of, edges_of}
 use Rattle.reading.specs.Reads.{Holds}
-use Rattle.engine.specs.Laid.{seen}
-use Rattle.engine.specs.Stands.{lists_of, Numbers}
-use Rattle.slicing.specs.Sliced.{SlicedAs, Advanced}
-use Rattle.slicing.specs.Begun.{begun, Begins, Lent, Saves}
+use Rattle.engine.specs.Laid.{layout_of}
+use Rattle.engine.specs.Stands.{lists_of}
+use Rattle.slicing.specs.Begun.{Begins}
+use Rattle.slicing.specs.LaidLaws.{few_cells_lem, width_near}
+use Rattle.slicing.specs.BeginsLaws.{started, told_by, lays_by, begins_by}
+use Rattle.slicing.proofs.slice.Goals.{After-lay_out}
 use Rattle.slicing.proofs.slice.Goals as goal
 
--- src/lib.rt:118:5
+pub lay_starts-requires : goal.lay_starts-requires
+lay_starts-requires c =
+    let holds = c.requires.bench_len.1.1 in
+    (few_cells_lem holds, omega (arith, length-take-le _ c.args.places.now c.requires.lent.places_long), width_near holds)
+
+pub load-requires : goal.load-requires
+load-requires c =
+    let few = few_cells_lem c.requires.bench_len.1.1 in
+    let s = started c.requires.lent c.lay_starts.ensures.starts c.lay_starts.ensures.others in
+    record {
+      bench_len = c.requires.bench_len.0;
+      places_in_bounds = (omega (arith, s.many), omega (arith, s.many), omega (arith, s.many, c.requires.lent.clumps_long));
+    }
+
+pub returns-in_default : goal.returns-in_default
+returns-in_default c R holds =
+    let s = started c.requires.lent c.lay_starts.ensures.starts c.lay_starts.ensures.others in
+    let out = c.in_default.ensures.loaded R (told_by holds s) in
+    record {
+      wrong = λ e. refl;
+      kept = λ e. refl;
+      moves = λ e. let z : ◌≡◌ true false = sym e ∙ out in cc;
+    }
+
 pub lay_out-requires : goal.lay_out-requires
-lay_out-requires c = ?
+lay_out-requires c =
+    let s = started c.requires.lent c.lay_starts.ensures.starts c.lay_starts.ensures.others in
+    (length c.args.sheet.widths.now, lays_by c.requires.bench_len.1.1 c.requires.lent s)
 
--- src/lib.rt:124:8
+-- a bench in form, of the row that was read by what was kept of it
+begins : (c : After-lay_out) (R : Row) → Holds c.args.sheet.width c.args.sheet.widths.now c.args.sheet.nets.now R
+    → Begins R c.args.bench.now c.in-Some.saved c.args.sheet.width (layout_of c.lay_out.new.places c.lay_out.new.changes)
+        (lists_of c.load.new.clumps c.args.keys.now)
+begins c R holds =
+    let s = started c.requires.lent c.lay_starts.ensures.starts c.lay_starts.ensures.others in
+    begins_by holds c.requires.lent s _ _ _ _ _ (c.in-Some.ensures.loaded R (told_by holds s)) c.load.ensures.clumps_len_unchanged
+    (c.lay_out.ensures.laid _ (lays_by holds c.requires.lent s)) c.lay_out.ensures.lengths.0
+
 pub advance-requires : goal.advance-requires
-advance-requires c = ?
+advance-requires c =
+    let r = c.requires.bench_len in
+    (r.0, (r.1.0, begins (goal.at.advance-requires c).After-lay_out r.1.0 r.1.1))
 
--- src/lib.rt:100:1
 pub returns : goal.returns
-returns c = ?
+returns c R holds =
+    let t = begins (goal.at.returns c).After-lay_out R holds in
+    record {
+      wrong = λ e. let z : ◌≡◌ true false = sym t.form ∙ e in cc;
+      kept = λ e. let z : ◌≡◌ true false = sym t.form ∙ e in cc;
+      moves = λ e. (_, (refl, c.advance.ensures R t));
+    }
