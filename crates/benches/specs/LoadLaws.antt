@@ -1,5 +1,5 @@
 -- What `load` answers: not in form where the head, the zero bytes or a clump does not fit, and else all that the bytes say.
-use Rattle.std.specs.Prelude.{◌≡◌, refl, ℕ, ◌+◌, ◌*◌, ◌≤◌, ◌<◌, List, Bool, true, false, cond, ◌&&◌, length, drop, eqb, Option, Some, None}
+use Rattle.std.specs.Prelude.{◌≡◌, refl, ℕ, ◌+◌, ◌*◌, ◌≤◌, ◌<◌, List, Bool, true, false, cond, ◌&&◌, length, drop, eqb, Some, None}
 use Rattle.std.proofs.Common.{sym, ◌∙◌, subst, ⊎_elim, arith, eq-or-lt_of_le, eq-eqb, ne_eqb, eqb-true}
 use Rattle.rules.specs.Sizes.{head_size, part_size}
 use Rattle.rules.specs.Row.{Row}

@@ -1,5 +1,5 @@
 -- The clumps read so far: what holds after k of them, at the start, after one more, where one does not fit, and at the end.
-use Rattle.std.specs.Prelude.{◌≡◌, refl, ℕ, suc, ◌+◌, ◌-◌, ◌≤◌, ◌<◌, List, Bool, true, false, cond, ◌&&◌, length, get_or, set, ltb, leb, eqb}
+use Rattle.std.specs.Prelude.{◌≡◌, refl, ℕ, suc, ◌+◌, ◌≤◌, ◌<◌, List, Bool, true, false, ◌&&◌, length, get_or, set, ltb, leb, eqb}
 use Rattle.std.proofs.Common.{sym, ◌∙◌, arith, get_or-set_same, get_or-set_other, below_more}
 use Rattle.std.proofs.Math.Numerals.{add-one}
 use borrow.Author.Tests.{ltb-true, leb-true}

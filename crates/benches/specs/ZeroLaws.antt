@@ -1,4 +1,5 @@
--- Zero bytes: one more, and the two ways in which a search for another byte ends; and a list of zero bytes is that many zeros.
+-- Zero bytes: one more, and the two ways in which a search for another byte ends; what the largest byte so far tells; and a list of zero bytes is that
+-- many zeros.
 use Rattle.std.specs.Prelude.{◌≡◌, refl, ℕ, zero, suc, ◌+◌, ◌≤◌, ◌<◌, max, List, [], ◌∷◌, true, false, ◌&&◌, length, get_or, drop, replicate, eqb}
 use Rattle.std.proofs.Common.{ap, add-one, sym, ◌∙◌, ⊎_elim, arith, eq-or-lt_of_le}
 use Rattle.std.proofs.Math.Seq.{drop-cons, drop-length}

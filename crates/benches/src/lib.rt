@@ -2,7 +2,7 @@
 // Any 1,547 bytes may come in: every number is read as it stands, and no place past the buffer or past the lists is touched.
 #![tactic(auto)]
 
-ghost use Rattle.std.specs.Prelude.{◌≡◌, ◌++◌, cond, ◌-◌, ◌*◌, ◌+◌, ◌≤◌, ◌<◌, length, drop, replicate, take, map};
+ghost use Rattle.std.specs.Prelude.{◌≡◌, ◌++◌, cond, ◌-◌, ◌*◌, ◌+◌, ◌≤◌, ◌<◌, length, drop, replicate};
 ghost use Rattle.rules.specs.Sizes.{most_cells, part_size, bench_size};
 ghost use Rattle.rules.specs.Row.{Row};
 ghost use Rattle.rules.specs.Steps.{Bench};

@@ -1,9 +1,8 @@
 -- A number of a place or of a clump is read in its list of such numbers; and a clump that is put into the list puts its numbers into theirs.
-use Rattle.std.specs.Prelude.{◌≡◌, ℕ, ◌<◌, List, length, get_or, set}
-use Rattle.std.proofs.Common.{refl, sym}
+use Rattle.std.specs.Prelude.{◌≡◌, ℕ, List, length, get_or, set}
+use Rattle.std.proofs.Common.{refl}
 use Rattle.std.proofs.Math.ListN.{get_or-map, length-map}
 use Rattle.std.proofs.lemmas.List.{map-set}
-use Rattle.std.proofs.Math.Seq.{map-set_same}
 use Rattle.layout.specs.declared.Place.{Place}
 use Rattle.layout.specs.Columns.{starts_of, bounds_of, needs_of}
 use Rattle.changes.specs.declared.Clump.{Clump}
@@ -64,15 +63,17 @@ module _ (cs : List Clump) where
   sum_read i = get_or-map (λ (c : Clump). c.sum) cs i no_clump
 
   -- the lists with a clump put in
-  pub lists_set : (k : ℕ) (c : Clump) (keys : List ℕ)
-      → lists_of (set cs k c) keys
-      ≡ record {
+  abbrev pub lists_put : ℕ → Clump → List ℕ → Lists
+  lists_put k c keys =
+      record {
         cells = set (cells_of cs) k c.cells;
         edges = set (edges_of cs) k c.edge;
         sizes = set (sizes_of cs) k c.size;
         sums = set (sums_of cs) k c.sum;
         keys = keys;
       }
+
+  pub lists_set : (k : ℕ) (c : Clump) (keys : List ℕ) → lists_of (set cs k c) keys ≡ lists_put k c keys
   lists_set k c keys =
       rw (
         map-set (λ (c : Clump). c.cells) cs k c,
@@ -80,7 +81,7 @@ module _ (cs : List Clump) where
         map-set (λ (c : Clump). c.size) cs k c,
         map-set (λ (c : Clump). c.sum) cs k c,
       )
-          refl
+      refl
 
   pub lists_settled : (e : Bench) (starts keys : List ℕ)
       → lists_of (set cs e.settled (settled_clump e starts)) keys ≡ settled_lists e starts (lists_of cs keys)

@@ -1,13 +1,13 @@
--- What the clump in hand does next, in the three ways that its heap tells: the last settled clump stands right of the limit; what is wanted is not reached
--- up to the limit; or a walk down the heap tells.
+-- What the clump in hand does next: it settles at the limit, where what is wanted is not reached up to there; or a walk down its heap that went past
+-- where the last settled clump stands tells.
 use Rattle.std.specs.Prelude.{◌≡◌, ℕ, ◌+◌, ◌≤◌, ◌<◌, ◌⊎◌, List}
 use Rattle.std.proofs.Common.{arith, inl, inr, ⊎_elim}
 use Rattle.rules.specs.declared.Change.{Change}
 use Rattle.changes.specs.Fills.{Weighed, lefts, Filled}
 use Rattle.changes.specs.FillLaws.{filled_least, lefts_rise}
-use Rattle.changes.specs.Steps.{kept_at, Descended}
+use Rattle.changes.specs.Steps.{Descended}
 use Rattle.changes.specs.declared.Kept.{Kept}
-use Rattle.changes.specs.declared.Stop.TheVariants.{Reached, Passed}
+use Rattle.changes.specs.declared.Stop.TheVariants.{Passed}
 use Rattle.engine.specs.Taken.{FoundAs}
 use Rattle.engine.specs.declared.Next.TheVariants.{Joins, Settles}
 
@@ -16,10 +16,6 @@ pub walks : (last cap limit : ℕ) → last ≤ limit → (last ≤ cap) ⊎ (ca
 walks last cap limit h far = ⊎_elim (λ (l : last ≤ cap). l) (λ (e : cap ≡ limit). omega arith) far
 
 module _ (cs : List Change) (base end want start last limit : ℕ) (keys : List ℕ) (k : Kept) where
-  pub found_right : Filled keys cs base base end k → k.cap ≤ limit → (last ≤ k.cap) ⊎ (k.cap ≡ limit) → limit < last
-      → FoundAs keys cs base end want start last limit (Joins k)
-  found_right f near far h = record { filled = f; near = near; far = far; by = inl h }
-
   pub found_limit : Weighed cs base end → Filled keys cs base base end k → k.cap ≤ limit → (last ≤ k.cap) ⊎ (k.cap ≡ limit)
       → (want ≤ k.sum) ⊎ (limit ≤ k.cap) → last ≤ limit → k.sum < want → FoundAs keys cs base end want start last limit (Settles k)
   found_limit weighed f near far sure h g =
@@ -38,19 +34,13 @@ module _ (cs : List Change) (base end want start last limit : ℕ) (keys : List 
             };
       }
 
-  module _ (cap : ℕ) (near : cap ≤ limit) (h : last ≤ limit) where
-    pub found_reached : Descended keys cs base end want last cap (Reached k) → FoundAs keys cs base end want start last limit (Settles k)
-    found_reached d =
-        record {
-          filled = d.filled;
-          near = omega (arith, d.near);
-          far = inl d.low;
-          by = record { within = h; reached = inl d.reached; first = d.first; stays = inr d.stopped };
-        }
+  module _ (cap : ℕ) (near : cap ≤ limit) (h : last ≤ limit) (d : Descended keys cs base end want last cap (Passed k)) where
+    pub found_past : 0 < last + start → want < k.sum → FoundAs keys cs base end want start last limit (Joins k)
+    found_past some more =
+        record { filled = d.filled; near = omega (arith, d.near); far = inl d.low; by = inr (some, omega (arith, d.stopped.1)) }
 
-    pub found_passed : Descended keys cs base end want last cap (Passed k) → (last + start ≡ 0) ⊎ (k.sum ≤ want)
-        → FoundAs keys cs base end want start last limit (Settles k)
-    found_passed d stays =
+    pub found_stays : (last + start ≡ 0) ⊎ (k.sum ≤ want) → FoundAs keys cs base end want start last limit (Settles k)
+    found_stays stays =
         record {
           filled = d.filled;
           near = omega (arith, d.near);
@@ -63,8 +53,3 @@ module _ (cs : List Change) (base end want start last limit : ℕ) (keys : List 
                 stays = ⊎_elim (λ (z : last + start ≡ 0). inl z) (λ (l : k.sum ≤ want). inr (omega (arith, d.stopped.1))) stays;
               };
         }
-
-    pub found_past : Descended keys cs base end want last cap (Passed k) → 0 < last + start → want < k.sum
-        → FoundAs keys cs base end want start last limit (Joins k)
-    found_past d some more =
-        record { filled = d.filled; near = omega (arith, d.near); far = inl d.low; by = inr (some, omega (arith, d.stopped.1)) }

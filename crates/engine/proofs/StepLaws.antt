@@ -1,7 +1,7 @@
 -- Each of the three steps, done on the lists, is the step of the definitions; and making the heap in hand again, or walking down it, changes nothing.
 use Prim.Native.Nat.{ℕ, ◌+◌, ◌-◌, ◌≤◌, ◌<◌, min, max}
 use mathlib.Core.Path.{◌≡◌, refl, ap, subst, ◌∙◌}
-use mathlib.Core.Bool.{true, false}
+use mathlib.Core.Bool.{true}
 use mathlib.Core.Logic.{◌⊎◌, ⊎_elim, inl, inr}
 use mathlib.Core.List.{List, [], ◌∷◌}
 use native.Mathlib.Omega.{arith}
@@ -13,7 +13,6 @@ use Rattle.rules.specs.Steps.{Clump, Hand, empty, holding, Bench as Meant, singl
 use Rattle.rules.specs.Bench.{apart}
 use Rattle.slopes.specs.Frame.{packed}
 use Rattle.slopes.specs.Turn.{by_order}
-use Rattle.slopes.specs.Sizes.{need}
 use Rattle.slopes.specs.Forgotten.{cells_in, Proper}
 use Rattle.slopes.proofs.ForgottenLaws.{step_proper}
 use Rattle.slopes.specs.Apart.{step_apart, proper_clumps}

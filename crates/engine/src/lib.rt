@@ -44,14 +44,10 @@ impl Bench {
     {
         let base = usize::from(row.places[self.first].bound);
         let after = row.places[self.opened];
+        let end = usize::from(after.bound);
+        let limit = row.width - after.start;
         Bench {
-            hand: made(
-                keys,
-                row.changes,
-                base,
-                usize::from(after.bound),
-                row.width - after.start,
-            ),
+            hand: made(keys, row.changes, base, end, limit),
             ..self
         }
     }
@@ -201,14 +197,9 @@ impl Bench {
         let want = after.need - place.need;
         let last = self.stand(row, clumps);
         let sure = self.sure(want, row, keys);
-        match sure.next(
-            want,
-            place.start,
-            last,
-            row.width - after.start,
-            usize::from(place.bound),
-            keys,
-        ) {
+        let limit = row.width - after.start;
+        let base = usize::from(place.bound);
+        match sure.next(want, place.start, last, limit, base, keys) {
             Next::Joins(hand) => Bench { hand, ..sure }.join(row, clumps, keys),
             Next::Settles(hand) => Bench { hand, ..sure }.settle(row, clumps),
         }
@@ -221,22 +212,14 @@ impl Bench {
     {
         let mut first = 0;
         for k in 0..self.settled {
-            let clump = clumps[k];
+            let clump = &mut clumps[k];
             let place = row.places[first];
             let next = first + usize::from(clump.cells);
+            let base = usize::from(place.bound);
             let end = usize::from(row.places[next].bound);
-            let kept = made(
-                keys,
-                row.changes,
-                usize::from(place.bound),
-                end,
-                clump.edge - place.start,
-            );
-            clumps[k] = Clump {
-                size: kept.size as u16,
-                sum: kept.sum,
-                ..clump
-            };
+            let kept = made(keys, row.changes, base, end, clump.edge - place.start);
+            clump.size = kept.size as u16;
+            clump.sum = kept.sum;
             first = next;
         }
         if self.first == self.opened {

@@ -1,21 +1,30 @@
 -- Laws of the calls' definitions, way by way: what each answers where the row is refused, a buffer has another length, or all is well.
-use Rattle.std.specs.Prelude.{ℕ, ◌*◌, ◌≡◌, true, false, List, Ok, Err}
+use Rattle.std.specs.Prelude.{ℕ, ◌+◌, ◌*◌, ◌≡◌, ◌<◌, Bool, true, false, List, Result, Ok, Err}
 use Rattle.std.proofs.Math.Path.{refl}
-use Rattle.std.proofs.Common.{ap, sym, ◌∙◌}
+use Rattle.std.proofs.Common.{ap, sym, ◌∙◌, arith}
 use Rattle.std.proofs.Math.ListN.{length}
 use borrow.Author.Tests.{eq-eqb, ne_eqb}
 use Rattle.rules.specs.Refusals.{refusal}
 use Rattle.rules.specs.Row.{Row}
 use Rattle.rules.specs.Reading.{taken, read_row}
-use Rattle.rules.specs.Length.{overlap, netlength}
+use Rattle.rules.specs.Length.{legal, overlap, overlap_from}
 use Rattle.rules.specs.Sizes.{bench_size}
-use Rattle.rules.specs.Bench.{bench_of, in_form}
-use Rattle.rules.specs.Calls.{Outcome, refuse, check_call, measure_call, measured, sites_from, slice_call, sliced, placement_call}
+use Rattle.rules.specs.Bench.{bench_bytes, bench_of, fresh, in_form}
+use Rattle.rules.specs.Calls.{Outcome, bit, refuse, check_call, measure_call, measured, sites_from, fresh_call, slice_call, sliced, placement_call}
+use Rattle.rules.specs.declared.Refusal.{Refusal}
 use Rattle.rules.specs.declared.Refused.{Refused}
 use Rattle.rules.specs.declared.Refusal.TheVariants.{Room, WrongBench, Overlap}
 use Rattle.reading.specs.declared.Sheet.{Sheet}
 use Rattle.reading.specs.Reads.{Holds, Reads}
 use Rattle.reading.specs.ReadsLaws.{reads_ok, reads_err}
+use Rattle.nets.specs.OverlapLaws.{none_legal, sites_length}
+use Rattle.nets.specs.Span.{length_by}
+use Rattle.measuring.specs.Measures.{Measurable}
+use Rattle.measuring.specs.HeldLaws.{measurable, measured_length}
+use Rattle.slicing.specs.declared.Sliced.{Sliced}
+use Rattle.slicing.specs.Sliced.{SlicedAs, advanced_outcome}
+use Rattle.placing.specs.PlacedAs.{PlacedAs}
+use Rattle.placing.specs.CallLaws.{call_refused, call_placed}
 use Rattle.lugsheet.specs.Answers.{answered}
 
 -- answer and buffer by the whole outcome
@@ -38,33 +47,81 @@ pub measure_err : (row placement : List ℕ) (f : Refused) → Reads (read_row r
 unfolding measure_call
 measure_err row placement f h = rw (reads_err (read_row row) f h) refl
 
-module _ (row placement : List ℕ) (R : Row) (e : read_row row ≡ taken R) where
-  pub measure_room : (length placement ≡ 4 * length R.widths → ⊥) → (measure_call row placement).answer ≡ refusal Room 0
+-- of a row R that is taken, by what is held of it in h; s is the placement
+module _ (row s : List ℕ) (h : Sheet) (R : Row) (e : read_row row ≡ taken R) (held : Holds h.width h.widths.now h.nets.now R) where
+  far_off : (length s ≡ 4 * length h.widths.now → ⊥) → refusal Room 0 ≡ (measure_call row s).answer
   unfolding measure_call
-  measure_room h = rw (e, ne_eqb (length placement) (4 * length R.widths) h) refl
+  far_off far = rw (e, ne_eqb (length s) (4 * length R.widths) (λ q. far (rw held.widths_are q))) refl
 
-  module _ (h : length placement ≡ 4 * length R.widths) where
-    pub measure_overlap : (overlap R (sites_from placement 0 (length R.widths)) ≡ length R.widths → ⊥)
-        → (measure_call row placement).answer ≡ refusal Overlap (overlap R (sites_from placement 0 (length R.widths)))
-    unfolding measure_call measured
-    measure_overlap n =
-        rw (
-          e,
-          eq-eqb (length placement) (4 * length R.widths) h,
-          ne_eqb (overlap R (sites_from placement 0 (length R.widths))) (length R.widths) n,
-        )
-        refl
+  module _ (long : length s ≡ 4 * length h.widths.now) where
+    right_length : length s ≡ 4 * length R.widths
+    right_length = long ∙ ap (λ (ws : List ℕ). 4 * length ws) held.widths_are
 
-    pub measure_done : overlap R (sites_from placement 0 (length R.widths)) ≡ length R.widths
-        → (measure_call row placement).answer ≡ netlength R (sites_from placement 0 (length R.widths))
-    unfolding measure_call measured
-    measure_done n =
-        rw (
-          e,
-          eq-eqb (length placement) (4 * length R.widths) h,
-          eq-eqb (overlap R (sites_from placement 0 (length R.widths))) (length R.widths) n,
-        )
-        refl
+    -- what is looked for is the definition's first overlap
+    first_is : overlap_from h.width 0 0 h.widths.now (sites_from s 0 (length h.widths.now)) ≡ overlap R (sites_from s 0 (length R.widths))
+    unfolding overlap
+    first_is = rw (held.width_is, held.widths_are) refl
+
+    module _ (i : ℕ) (found : i ≡ overlap_from h.width 0 0 h.widths.now (sites_from s 0 (length h.widths.now))) where
+      overlaps : i < length h.widths.now → refusal Overlap i ≡ (measure_call row s).answer
+      unfolding measure_call measured
+      overlaps l =
+          let is = found ∙ first_is in
+          rw (
+            e,
+            eq-eqb (length s) (4 * length R.widths) right_length,
+            ne_eqb (overlap R (sites_from s 0 (length R.widths))) (length R.widths) (λ q. omega (arith, is, l, ap length held.widths_are)),
+          )
+          (ap (λ (n : ℕ). refusal Overlap n) is)
+
+      module _ (past : i ≡ length h.widths.now) where
+        none : overlap R (sites_from s 0 (length R.widths)) ≡ length R.widths
+        none = omega (arith, found ∙ first_is, past, ap length held.widths_are)
+
+        sites_legal : legal R (sites_from s 0 (length R.widths)) ≡ true
+        sites_legal = none_legal R (sites_from s 0 (length R.widths)) (sites_length s 0 (length R.widths)) none
+
+        ready : Measurable h.nets.now R.widths s
+        ready = measurable h.width h.widths.now h.nets.now R held s right_length sites_legal
+
+        done : (n : ℕ) → ((ws : List ℕ) → Measurable h.nets.now ws s → n ≡ length_by (sites_from s 0 (length ws)) h.nets.now)
+            → n ≡ (measure_call row s).answer
+        unfolding measure_call measured
+        done n sums =
+            rw (
+              e,
+              eq-eqb (length s) (4 * length R.widths) right_length,
+              eq-eqb (overlap R (sites_from s 0 (length R.widths))) (length R.widths) none,
+            )
+            (sums R.widths ready ∙ measured_length h.width h.widths.now h.nets.now R held s right_length sites_legal)
+
+-- the same by what reading the row answers
+module _ (row s : List ℕ) (h : Sheet) (r : Reads (read_row row) (Ok h)) where
+  pub measure_room : (length s ≡ 4 * length h.widths.now → ⊥) → refusal Room 0 ≡ (measure_call row s).answer
+  measure_room far = let t = reads_ok (read_row row) h r in far_off row s h t.0 t.1.0 t.1.1 far
+
+  module _ (long : length s ≡ 4 * length h.widths.now) (i : ℕ)
+      (found : i ≡ overlap_from h.width 0 0 h.widths.now (sites_from s 0 (length h.widths.now))) where
+    pub measure_overlap : i < length h.widths.now → refusal Overlap i ≡ (measure_call row s).answer
+    measure_overlap l = let t = reads_ok (read_row row) h r in overlaps row s h t.0 t.1.0 t.1.1 long i found l
+
+    pub measure_ready : i ≡ length h.widths.now → (ws : List ℕ) × Measurable h.nets.now ws s
+    measure_ready past =
+        let t = reads_ok (read_row row) h r in (t.0.widths, ready row s h t.0 t.1.0 t.1.1 long i found past)
+
+    pub measure_done : i ≡ length h.widths.now → (n : ℕ)
+        → ((ws : List ℕ) → Measurable h.nets.now ws s → n ≡ length_by (sites_from s 0 (length ws)) h.nets.now) → n ≡ (measure_call row s).answer
+    measure_done past n sums = let t = reads_ok (read_row row) h r in done row s h t.0 t.1.0 t.1.1 long i found past n sums
+
+-- ---- fresh
+
+pub fresh_room : (bench : List ℕ) → (length bench ≡ bench_size → ⊥) → fresh_call bench ≡ refuse bench Room 0
+unfolding fresh_call
+fresh_room bench far = rw (ne_eqb (length bench) bench_size far) refl
+
+pub fresh_done : (bench : List ℕ) → length bench ≡ bench_size → fresh_call bench ≡ record { answer = 0; buffer = bench_bytes fresh }
+unfolding fresh_call
+fresh_done bench long = rw (eq-eqb (length bench) bench_size long) refl
 
 -- ---- slice
 
@@ -73,33 +130,91 @@ pub slice_err : (row bench : List ℕ) (budget : ℕ) (f : Refused) → Reads (r
 unfolding slice_call
 slice_err row bench budget f h = rw (reads_err (read_row row) f h) refl
 
-module _ (row bench : List ℕ) (budget : ℕ) (R : Row) (e : read_row row ≡ taken R) where
-  pub slice_room : (length bench ≡ bench_size → ⊥) → slice_call row bench budget ≡ refuse bench Room 0
+-- of a row R that is taken; s are the bytes of the bench before, t afterwards
+module _ (row s : List ℕ) (budget : ℕ) (R : Row) (e : read_row row ≡ taken R) where
+  not_long : (length s ≡ bench_size → ⊥) → slice_call row s budget ≡ refuse s Room 0
   unfolding slice_call
-  slice_room h = rw (e, ne_eqb (length bench) bench_size h) refl
+  not_long far = rw (e, ne_eqb (length s) bench_size far) refl
 
-  module _ (h : length bench ≡ bench_size) where
-    pub slice_form : in_form R bench ≡ false → slice_call row bench budget ≡ refuse bench WrongBench 0
+  module _ (long : length s ≡ bench_size) where
+    not_formed : in_form R s ≡ false → slice_call row s budget ≡ refuse s WrongBench 0
     unfolding slice_call
-    slice_form f = rw (e, eq-eqb (length bench) bench_size h, f) refl
+    not_formed f = rw (e, eq-eqb (length s) bench_size long, f) refl
 
-    pub slice_done : in_form R bench ≡ true → slice_call row bench budget ≡ sliced R budget (bench_of R bench)
+    formed : in_form R s ≡ true → slice_call row s budget ≡ sliced R budget (bench_of R s)
     unfolding slice_call
-    slice_done f = rw (e, eq-eqb (length bench) bench_size h, f) refl
+    formed f = rw (e, eq-eqb (length s) bench_size long, f) refl
 
--- ---- placement: the ways that end before placing
+    module _ (t : List ℕ) (x : Result Sliced Refusal) (told : SlicedAs R budget s t x) where
+      refused_as : (q : Refusal) → x ≡ Err q → slice_call row s budget ≡ refuse t q 0
+      refused_as q is = go (in_form R s) refl
+        where
+          go : (b : Bool) → in_form R s ≡ b → slice_call row s budget ≡ refuse t q 0
+          go false f = let same : q ≡ WrongBench = cc (told.wrong f) in rw (same, told.kept f) (not_formed f)
+          go true f = let m = told.moves f in cc (m.1.0)
+
+      done_as : (a : Sliced) → x ≡ Ok a → slice_call row s budget ≡ record { answer = 2 * a.steps.0 + bit a.finished; buffer = t }
+      done_as a is = go (in_form R s) refl
+        where
+          go : (b : Bool) → in_form R s ≡ b → slice_call row s budget ≡ record { answer = 2 * a.steps.0 + bit a.finished; buffer = t }
+          go false f = cc (told.wrong f)
+          go true f =
+              let m = told.moves f in
+              let same : a ≡ m.0 = cc (m.1.0) in
+              rw same (formed f ∙ sym (advanced_outcome R budget s t m.0 m.1.1))
+
+-- the same by what reading the row answers
+module _ (row s : List ℕ) (budget : ℕ) (h : Sheet) (r : Reads (read_row row) (Ok h)) where
+  pub slice_room : (length s ≡ bench_size → ⊥) → slice_call row s budget ≡ refuse s Room 0
+  slice_room far = let w = reads_ok (read_row row) h r in not_long row s budget w.0 w.1.0 far
+
+  module _ (long : length s ≡ bench_size) (t : List ℕ) where
+    pub slice_refused : (q : Refusal) → ((R : Row) → Holds h.width h.widths.now h.nets.now R → SlicedAs R budget s t (Err q))
+        → slice_call row s budget ≡ refuse t q 0
+    slice_refused q told = let w = reads_ok (read_row row) h r in refused_as row s budget w.0 w.1.0 long t (Err q) (told w.0 w.1.1) q refl
+
+    pub slice_done : (a : Sliced) → ((R : Row) → Holds h.width h.widths.now h.nets.now R → SlicedAs R budget s t (Ok a))
+        → slice_call row s budget ≡ record { answer = 2 * a.steps.0 + bit a.finished; buffer = t }
+    slice_done a told = let w = reads_ok (read_row row) h r in done_as row s budget w.0 w.1.0 long t (Ok a) (told w.0 w.1.1) a refl
+
+-- ---- placement
 
 pub placement_err : (row bench placement : List ℕ) (f : Refused) → Reads (read_row row) (Err f)
     → placement_call row bench placement ≡ refuse placement f.refusal f.place
 unfolding placement_call
 placement_err row bench placement f h = rw (reads_err (read_row row) f h) refl
 
-module _ (row bench placement : List ℕ) (R : Row) (e : read_row row ≡ taken R) where
-  pub placement_bench_room : (length bench ≡ bench_size → ⊥) → placement_call row bench placement ≡ refuse placement Room 0
+module _ (row bench before : List ℕ) (R : Row) (e : read_row row ≡ taken R) where
+  bench_off : (length bench ≡ bench_size → ⊥) → placement_call row bench before ≡ refuse before Room 0
   unfolding placement_call
-  placement_bench_room h = rw (e, ne_eqb (length bench) bench_size h) refl
+  bench_off far = rw (e, ne_eqb (length bench) bench_size far) refl
 
-  module _ (h : length bench ≡ bench_size) where
-    pub placement_room : (length placement ≡ 4 * length R.widths → ⊥) → placement_call row bench placement ≡ refuse placement Room 0
-    unfolding placement_call
-    placement_room g = rw (e, eq-eqb (length bench) bench_size h, ne_eqb (length placement) (4 * length R.widths) g) refl
+  placement_off : length bench ≡ bench_size → (length before ≡ 4 * length R.widths → ⊥) → placement_call row bench before ≡ refuse before Room 0
+  unfolding placement_call
+  placement_off long far = rw (e, eq-eqb (length bench) bench_size long, ne_eqb (length before) (4 * length R.widths) far) refl
+
+-- by what reading the row answers
+module _ (row bench before : List ℕ) (h : Sheet) (r : Reads (read_row row) (Ok h)) where
+  pub placement_bench_room : (length bench ≡ bench_size → ⊥) → placement_call row bench before ≡ refuse before Room 0
+  placement_bench_room far = let w = reads_ok (read_row row) h r in bench_off row bench before w.0 w.1.0 far
+
+  module _ (long : length bench ≡ bench_size) where
+    pub placement_room : (length before ≡ 4 * length h.widths.now → ⊥) → placement_call row bench before ≡ refuse before Room 0
+    placement_room far =
+        let w = reads_ok (read_row row) h r in
+        placement_off row bench before w.0 w.1.0 long (λ q. far (q ∙ ap (λ (ws : List ℕ). 4 * length ws) (sym w.1.1.widths_are)))
+
+    module _ (room : length before ≡ 4 * length h.widths.now) (after : List ℕ) where
+      pub placement_refused : (q : Refusal) → ((R : Row) → Holds h.width h.widths.now h.nets.now R → PlacedAs R bench before after (Err q))
+          → placement_call row bench before ≡ refuse after q 0
+      placement_refused q told =
+          let w = reads_ok (read_row row) h r in
+          let wide = room ∙ ap (λ (ws : List ℕ). 4 * length ws) w.1.1.widths_are in
+          call_refused row bench before after w.0 (Err q) w.1.0 long wide (told w.0 w.1.1) q refl
+
+      pub placement_done : (n : ℕ) → ((R : Row) → Holds h.width h.widths.now h.nets.now R → PlacedAs R bench before after (Ok n))
+          → placement_call row bench before ≡ record { answer = n; buffer = after }
+      placement_done n told =
+          let w = reads_ok (read_row row) h r in
+          let wide = room ∙ ap (λ (ws : List ℕ). 4 * length ws) w.1.1.widths_are in
+          call_placed row bench before after w.0 (Ok n) w.1.0 long wide (told w.0 w.1.1) n refl

@@ -171,7 +171,7 @@ fn slice<const CELLS: usize, const NETS: usize, const ENDS: usize, const CHANGES
         &mut keys,
     ) {
         Ok(sliced) => Ok(sliced_answer(sliced)),
-        Err(refusal) => unmet(refusal),
+        Err(wrong) => unmet(wrong),
     }
 }
 
@@ -201,7 +201,10 @@ fn placement_of<const CELLS: usize, const NETS: usize, const ENDS: usize>(
     let mut widths = [0; CELLS];
     let mut nets = [Net::default(); NETS];
     let sheet = read_row(row, &mut widths, &mut nets)?;
-    if bench.len() != BENCH_SIZE || placement.len() != 4 * sheet.widths.len() {
+    if bench.len() != BENCH_SIZE {
+        return unmet(Refusal::Room);
+    }
+    if placement.len() != 4 * sheet.widths.len() {
         return unmet(Refusal::Room);
     }
     let mut places = [Place::default(); ENDS];

@@ -1,7 +1,8 @@
 -- From a sheet that was read and a bench that was loaded to what a placement promises: when the bench is finished, that what stands in the
 -- placement then can be measured, and what the broker's call has to be told.
 use Rattle.std.specs.Prelude.{◌≡◌, refl, Bool, true, false, not, ◌&&◌, List, [], ◌∷◌, ℕ, suc, ◌+◌, ◌*◌, ◌≤◌, ◌<◌, length, get_or, leb, Ok, Err}
-use Rattle.std.proofs.Common.{ap, sym, ◌∙◌, arith}
+use Rattle.std.proofs.Common.{ap, sym, ◌∙◌, arith, take, length-take-le, get_or-take}
+use Rattle.std.proofs.lemmas.List.{take-map}
 use Rattle.rules.specs.Sizes.{widest}
 use Rattle.rules.specs.Row.{Row}
 use Rattle.rules.specs.Length.{legal_from, legal, netlength}
@@ -15,16 +16,20 @@ use Rattle.nets.specs.Span.{length_by}
 use Rattle.reading.specs.Reads.{Holds}
 use Rattle.reading.specs.SoundLaws.{every_at}
 use Rattle.reading.specs.Sound.{WidthFits}
+use Rattle.changes.specs.declared.Clump.{Clump}
+use Rattle.changes.specs.Columns.{cells_of, edges_of}
 use Rattle.layout.specs.Shared.{Places}
 use Rattle.benches.specs.declared.Saved.{Saved}
-use Rattle.benches.specs.Saved.{Told, Loaded}
+use Rattle.benches.specs.Saved.{Told, Tells}
 use Rattle.benches.specs.BothLaws.{clash}
 use Rattle.benches.specs.FormLaws.{formed, by_hand, bench_with, bench_without}
+use Rattle.benches.specs.ColumnLaws.{cells_length}
 use Rattle.benches.specs.LegalLaws.{finished_legal}
 use Rattle.measuring.specs.Measures.{Measurable}
 use Rattle.measuring.specs.HeldLaws.{measurable, measured_length}
 use Rattle.placing.specs.Sites.{site_bytes_length, sites_back}
 use Rattle.placing.specs.Puts.{Ready}
+use Rattle.placing.specs.PutLaws.{clumps_listed}
 use Rattle.placing.specs.PlacedAs.{PlacedAs}
 
 -- ---- a legal list has a position for each cell
@@ -49,35 +54,35 @@ module _ (width : ℕ) (widths : List ℕ) (nets : List Net) (R : Row) (held : H
   pub held_widths : (i : ℕ) → i < length widths → get_or widths i 0 ≤ widest
   held_widths i l = rw held.widths_are (every_at WidthFits R.widths i 0 held.sound.widths (omega (arith, as_many))).1
 
-  pub held_told : (starts : List ℕ) → Places widths (length widths) starts → Told R width (length widths) starts
-  held_told starts p = record { wide = held.width_is; many = as_many; sums = λ i h. rw (← held.widths_are) (p.sums i h) }
+  pub held_told : (starts : List ℕ) → length starts ≡ length widths + 1 → Places widths (length widths) starts → Told R width starts
+  held_told starts e p = record { wide = held.width_is; many = omega (arith, as_many); sums = λ i h. rw (← held.widths_are) (p.sums i (omega (arith, as_many))) }
 
-  module _ (s counts edges : List ℕ) (saved : Saved) (loaded : Loaded R s counts edges saved) (form : in_form R s ≡ true) where
+  module _ (s : List ℕ) (clumps : List Clump) (saved : Saved) (form : in_form R s ≡ true) (t : Tells s (cells_of clumps) (edges_of clumps) saved) where
     -- the test for finished
     pub finished_told : (not saved.held && leb (length widths) saved.opened) ≡ finished R (bench_of R s)
     unfolding finished finished_by
     finished_told =
         let f = formed R s form in
-        let t = loaded.tells form in
         rw (t.held, t.opened, as_many)
         (by_hand R s f.hand_bit
         (λ e. rw e (sym (ap (λ (b : Bench). finished R b) (bench_without R s e))))
         (λ e. rw e (sym (ap (λ (b : Bench). finished R b) (bench_with R s e (omega (arith, f.hand_clump)))))))
 
+    -- the clumps are at the front of the list lent for them
+    pub clumps_fit : length widths ≤ length clumps → saved.clumps ≤ length clumps
+    clumps_fit long = omega (arith, t.clumps, clumps_listed R s form, as_many)
+
     pub ready :
-        (placement : List ℕ) → length placement ≡ 4 * length widths → length widths ≤ length counts → length widths ≤ length edges
-        → finished R (bench_of R s) ≡ true → Ready R s saved.clumps counts edges widths placement
-    ready placement room counts_long edges_long ends =
+        (placement : List ℕ) → length placement ≡ 4 * length widths → length widths ≤ length clumps → finished R (bench_of R s) ≡ true
+        → Ready R s (cells_of (take saved.clumps clumps)) (edges_of (take saved.clumps clumps)) widths placement
+    ready placement room long ends =
         record {
           form = form;
           ends = ends;
-          clumps_are = (loaded.tells form).clumps;
-          counts_are = (loaded.tells form).cells_are;
-          edges_are = (loaded.tells form).edges_are;
-          counts_long = omega (arith, as_many);
-          edges_long = omega (arith, as_many);
-          widths = λ i l. rw held.widths_are refl;
-          long = omega (arith, as_many);
+          clumps_are = cells_length (take saved.clumps clumps) ∙ length-take-le saved.clumps clumps (clumps_fit long) ∙ t.clumps;
+          cells_are = λ k h. rw (← take-map) (get_or-take saved.clumps (cells_of clumps) k 0 (omega (arith, t.clumps)) ∙ t.cells_are k h);
+          edges_are = λ k h. rw (← take-map) (get_or-take saved.clumps (edges_of clumps) k 0 (omega (arith, t.clumps)) ∙ t.edges_are k h);
+          widths = held.widths_are;
           few = held.sound.few_cells;
           near = held.sound.wide;
           room = omega (arith, as_many);

@@ -2,7 +2,7 @@
 -- positions of the whole bench stand in the placement.
 use Rattle.std.specs.Prelude.{◌≡◌, true, List, [], ◌∷◌, ◌++◌, reverse, length, get_or, take}
 use Rattle.std.proofs.Math.Path.{refl, sym}
-use Rattle.std.proofs.Common.{ap, ◌∙◌, add-zero, add_assoc, length-take, ext_get_or, get_or-take, get_or-drop}
+use Rattle.std.proofs.Common.{ap, ◌∙◌, add-zero, add_assoc}
 use Prim.Native.Nat.{ℕ, zero, suc, ◌+◌, ◌-◌, ◌*◌, ◌≤◌, ◌<◌}
 use native.Mathlib.Omega.{arith}
 use Rattle.std.proofs.Math.ListN.{drop, length-append, length-drop}
@@ -21,7 +21,6 @@ use Rattle.benches.specs.ApartLaws.{apart_stand}
 use Rattle.benches.specs.MadeLaws.{clump_cells, clump_edge, clump_width}
 use Rattle.benches.specs.PositionLaws.{total_part, packed_length, positions_more}
 use Rattle.benches.specs.StoreLaws.{put32}
-use Rattle.placing.specs.Puts.{Ready}
 use Rattle.placing.specs.Sites.{over, over_more, over_over, over_all}
 
 -- ---- cells side by side
@@ -35,13 +34,6 @@ unfolding packed total
 packed_more x k [] h = absurd (omega arith)
 packed_more x zero (w ∷ ws) h = rw add-zero refl
 packed_more x (suc k) (w ∷ ws) h = rw (packed_more (x + w) k ws (omega arith), add_assoc x w (total (take k ws))) refl
-
--- only the first k widths count
-packed_first : (x k : ℕ) (ws : List ℕ) → packed x k (take k ws) ≡ packed x k ws
-unfolding packed
-packed_first x zero ws = refl
-packed_first x (suc k) [] = refl
-packed_first x (suc k) (w ∷ ws) = rw (packed_first (x + w) k ws) refl
 
 -- no part of some widths is wider than all of them
 pub part_most : (ws : List ℕ) (n m : ℕ) → n ≤ m → total (take n ws) ≤ total (take m ws)
@@ -135,47 +127,31 @@ module _ (R : Row) (s : List ℕ) (form : in_form R s ≡ true) (ends : finished
         positions_count k (omega arith),
       ))
 
-  -- with the widths of the row at the front of a longer list
-  module _ (ws : List ℕ) (same : (i : ℕ) → i < length R.widths → get_or ws i 0 ≡ get_or R.widths i 0) (long : length R.widths ≤ length ws) where
-    widths_alike : (a n : ℕ) → a + n ≤ length R.widths → take n (drop a ws) ≡ take n (drop a R.widths)
-    widths_alike a n h =
-        ext_get_or 0 (take n (drop a ws)) (take n (drop a R.widths))
-        (omega (arith, length-take n (drop a ws), length-take n (drop a R.widths), length-drop a ws, length-drop a R.widths))
-        (λ i l.
-        let g : i < n = omega (arith, length-take n (drop a ws)) in
-        get_or-take n (drop a ws) i 0 g ∙ get_or-drop a ws i 0 ∙ same (a + i) (omega arith)
-        ∙ sym (get_or-take n (drop a R.widths) i 0 g ∙ get_or-drop a R.widths i 0))
+  -- clump k, told by its numbers
+  module _ (k first cells edge : ℕ) (h : k < saved_clumps s) (begins : first ≡ cells_before s k) (has : cells ≡ saved_cells s k) (stands : edge ≡ saved_edge s k) where
+    -- ends within the row
+    pub clump_near : edge + total (take cells (drop first R.widths)) ≤ R.width
+    unfolding cells_before
+    clump_near =
+        let settled : saved_clumps s - saved_hand s ≡ saved_clumps s = omega (arith, no_hand) in
+        rw (begins, has, stands)
+        (omega (
+          arith,
+          (apart_stand R s R.width (saved_clumps s) (rw settled at told.stand_apart) k h).within,
+          clump_width R s k (told.have_cells k h),
+          total_part R.widths (cells_before s k) (saved_cells s k),
+        ))
 
-    packed_alike : (x a n : ℕ) → a + n ≤ length R.widths → packed x n (drop a ws) ≡ packed x n (drop a R.widths)
-    packed_alike x a n h =
-        sym (packed_first x n (drop a ws)) ∙ ap (λ (l : List ℕ). packed x n l) (widths_alike a n h) ∙ packed_first x n (drop a R.widths)
-
-    -- clump k, told by its numbers
-    module _ (k first cells edge : ℕ) (h : k < saved_clumps s) (begins : first ≡ cells_before s k) (has : cells ≡ saved_cells s k) (stands : edge ≡ saved_edge s k) where
-      -- ends within the row
-      pub clump_near : edge + total (take cells (drop first ws)) ≤ R.width
-      unfolding cells_before
-      clump_near =
-          let settled : saved_clumps s - saved_hand s ≡ saved_clumps s = omega (arith, no_hand) in
-          rw (begins, has, stands, widths_alike (cells_before s k) (saved_cells s k) (clump_inside k h))
-          (omega (
-            arith,
-            (apart_stand R s R.width (saved_clumps s) (rw settled at told.stand_apart) k h).within,
-            clump_width R s k (told.have_cells k h),
-            total_part R.widths (cells_before s k) (saved_cells s k),
-          ))
-
-      -- and is put after those left of it
-      pub put_next : (before so_far : List ℕ) → so_far ≡ over before 0 (positions_to R s k)
-          → over so_far first (packed edge cells (drop first ws)) ≡ over before 0 (positions_to R s (suc k))
-      put_next before so_far e =
-          let ps = positions_to R s k in
-          let next = packed (saved_edge s k) (saved_cells s k) (drop (cells_before s k) R.widths) in
-          rw (begins, has, stands, e)
-          (ap (λ (l : List ℕ). over (over before 0 ps) (cells_before s k) l) (packed_alike (saved_edge s k) (cells_before s k) (saved_cells s k) (clump_inside k h))
-          ∙ ap (λ (n : ℕ). over (over before 0 ps) n next) (sym (positions_count k (omega arith)))
-          ∙ over_over before ps next
-          ∙ ap (λ (l : List ℕ). over before 0 l) (sym (positions_next k h)))
+    -- and is put after those left of it
+    pub put_next : (before so_far : List ℕ) → so_far ≡ over before 0 (positions_to R s k)
+        → over so_far first (packed edge cells (drop first R.widths)) ≡ over before 0 (positions_to R s (suc k))
+    put_next before so_far e =
+        let ps = positions_to R s k in
+        let next = packed (saved_edge s k) (saved_cells s k) (drop (cells_before s k) R.widths) in
+        rw (begins, has, stands, e)
+        (ap (λ (n : ℕ). over (over before 0 ps) n next) (sym (positions_count k (omega arith)))
+        ∙ over_over before ps next
+        ∙ ap (λ (l : List ℕ). over before 0 l) (sym (positions_next k h)))
 
   -- all clumps put
   pub put_all : (before : List ℕ) → length before ≡ 4 * length R.widths
@@ -184,10 +160,6 @@ module _ (R : Row) (s : List ℕ) (form : in_form R s ≡ true) (ends : finished
       over_all before (positions_to R s (saved_clumps s)) (omega (arith, positions_count (saved_clumps s) (omega arith), told.add_up, all_opened))
       ∙ ap site_bytes positions_all
 
--- each clump has a cell, so that both lists have a place for it
-pub clump_listed : {R : Row} {s : List ℕ} {clumps : ℕ} {counts edges ws placement : List ℕ} {k : ℕ}
-    → Ready R s clumps counts edges ws placement → k < clumps → (k < length counts) × (k < length edges)
-clump_listed {R} {s} {k = k} r h =
-    let f = formed R s r.form in
-    let within : k < length R.widths = omega (arith, r.clumps_are, clumps_least f, f.within) in
-    (omega (arith, r.counts_long), omega (arith, r.edges_long))
+-- each clump has a cell, so that a list that is as long as the row has a place for each
+pub clumps_listed : (R : Row) (s : List ℕ) → in_form R s ≡ true → saved_clumps s ≤ length R.widths
+clumps_listed R s form = let f = formed R s form in omega (arith, clumps_least f, f.within)

@@ -15,16 +15,14 @@ pub record Fits (ws placement : List ℕ) (first end edge : ℕ) : Type 0 where
   pub room : 4 * end ≤ length placement
   pub near : edge + total (take (end - first) (drop first ws)) ≤ widest
 
--- the clumps that saved bytes say, for the row whose widths begin a longer list
-pub record Ready (R : Row) (s : List ℕ) (counts edges ws placement : List ℕ) : Type 0 where
+-- the clumps that saved bytes say, by the cells and the left edge of each, for a row and its widths
+pub record Ready (R : Row) (s : List ℕ) (cells edges ws placement : List ℕ) : Type 0 where
   pub form : in_form R s ≡ true
   pub ends : finished R (bench_of R s) ≡ true
-  pub clumps_are : length counts ≡ saved_clumps s
-  pub counts_are : (k : ℕ) → k < saved_clumps s → get_or counts k 0 ≡ saved_cells s k
+  pub clumps_are : length cells ≡ saved_clumps s
+  pub cells_are : (k : ℕ) → k < saved_clumps s → get_or cells k 0 ≡ saved_cells s k
   pub edges_are : (k : ℕ) → k < saved_clumps s → get_or edges k 0 ≡ saved_edge s k
-  pub edges_long : length edges ≡ length counts
-  pub widths : (i : ℕ) → i < length R.widths → get_or ws i 0 ≡ get_or R.widths i 0
-  pub long : length R.widths ≤ length ws
+  pub widths : ws ≡ R.widths
   pub few : length R.widths ≤ most_cells
   pub near : R.width ≤ widest
   pub room : length placement ≡ 4 * length R.widths

@@ -1,6 +1,6 @@
 -- The end of a row: what EN and the bytes after it make of what was read (3, then 6, then taken), and that the lists then hold the row.
-use Rattle.std.specs.Prelude.{ℕ, ◌+◌, ◌≤◌, ◌<◌, ◌≡◌, refl, length, drop, take, List, map, reverse, Option, Result, Ok, Err}
-use Rattle.std.proofs.Common.{sym, ap, ◌∙◌, arith, ne_eqb, eq-eqb, le-leb}
+use Rattle.std.specs.Prelude.{ℕ, ◌+◌, ◌≤◌, ◌<◌, ◌≡◌, refl, length, drop, take, List, reverse, Option, Result, Ok, Err}
+use Rattle.std.proofs.Common.{◌∙◌, arith, ne_eqb, eq-eqb, le-leb}
 use Rattle.std.proofs.lemmas.Bool.{lt-leb}
 use Rattle.rules.specs.Row.{Row}
 use Rattle.rules.specs.Records.{Reading, record_at}
@@ -10,7 +10,6 @@ use Rattle.rules.specs.declared.Refused.{Refused}
 use Rattle.rules.specs.declared.Record.TheVariants.{En}
 use Rattle.records.specs.declared.Progress.{Progress}
 use Rattle.records.specs.Answers.{answers_may}
-use Rattle.nets.specs.Summary.{summary}
 use Rattle.nets.specs.declared.Net.{Net}
 use Rattle.nets.specs.declared.Draft.{Draft}
 use Rattle.reading.specs.ReadingLaws.{read_end}

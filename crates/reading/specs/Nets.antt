@@ -1,5 +1,5 @@
 -- The nets: what the loop over their records keeps, and what one record more makes of it.
-use Rattle.std.specs.Prelude.{ℕ, suc, ◌+◌, ◌-◌, ◌≤◌, ◌<◌, min, ◌≡◌, List, [], ◌∷◌, ◌++◌, map, reverse, Bool, true, false, length, take, drop, get_or, set, Option, Some, None, IfSome, Result, Ok, Err}
+use Rattle.std.specs.Prelude.{ℕ, ◌-◌, ◌≤◌, ◌<◌, min, ◌≡◌, List, [], ◌∷◌, map, reverse, Bool, true, false, length, take, drop, get_or, set, Option, Some, None, IfSome, Result, Ok, Err}
 use Rattle.std.proofs.Math.Path.{refl}
 use Rattle.std.proofs.Common.{sym, ap, ◌∙◌, arith}
 use Rattle.std.proofs.Math.ListN.{length-set}
@@ -77,7 +77,7 @@ pub cut_widths : (s ws : List ℕ) (sum : ℕ) (p : Progress) (t : List ℕ) (c 
 cut_widths s ws sum p t c u all =
     let long : length (take p.cells ws) ≡ p.cells = length-take-le p.cells ws (omega (arith, u.shows.cells, u.room)) in
     let same : (i : ℕ) → i < length c.widths → get_or (take p.cells ws) i 0 ≡ get_or c.widths i 0 =
-        λ i h. get_or-take p.cells ws i 0 (omega (arith, u.shows.cells)) ∙ u.shows.widths i h in (
+    λ i h. get_or-take p.cells ws i 0 (omega (arith, u.shows.cells)) ∙ u.shows.widths i h in (
       ext_get_or 0 (take p.cells ws) c.widths (omega (arith, u.shows.cells)) (λ i h. same i (omega (arith, u.shows.cells))),
       record { shows = shows_widths u.shows (take p.cells ws) same; good = u.good; adds = u.adds; room = omega (arith, u.shows.cells); same = u.same },
     )
@@ -143,9 +143,9 @@ module _ (s ws : List ℕ) (sum : ℕ) (p : Progress) (t : List ℕ) (d : Option
   at_nets = record { started = i.started; all_cells = i.all_cells }
 
   -- what was read is the record that stands next, or a refusal of the row
-  module _ (read : Result Record Refusal) (told : (x : Reading) → Shows p ws x → AtNets x → length ws ≡ p.cells → read ≡ record_at x t) where
+  module _ (read : Result Record Refusal) (told : (x : Reading) → Shows p ws x → AtNets x → read ≡ record_at x t) where
     stands_next : read ≡ record_at c t
-    stands_next = told c i.underway.shows at_nets (omega (arith, ap length i.exact, i.all_cells, i.underway.shows.cells))
+    stands_next = told c i.underway.shows at_nets
 
     pub net_read : (r : Record) → Ok r ≡ placed p.place read → record_at c t ≡ Ok r
     net_read r e = sym stands_next ∙ placed_ok p.place read r e

@@ -3,7 +3,7 @@
 // a lent list when the next NT or EN closes it.
 #![tactic(auto)]
 
-ghost use Rattle.std.specs.Prelude.{◌≡◌, List, ℕ, ◌≤◌, min, length, IfSome};
+ghost use Rattle.std.specs.Prelude.{IfOk, ◌≡◌, List, ℕ, ◌≤◌, min, length, IfSome};
 ghost use Rattle.rules.specs.Sizes.{widest, most_cells, most_nets};
 ghost use Rattle.rules.specs.Records.{Reading};
 ghost use Rattle.rules.specs.Reading.{after, read_row};
@@ -130,7 +130,8 @@ pub fn read_row<'a>(
     nets: &'a mut [Net],
 ) -> Result<Sheet<'a>, Refused>
     requires { Roomy s.now (length widths.old) (length nets.old) }
-    ensures { Reads (read_row s.now) result }
+    ensures reads { Reads (read_row s.now) result }
+    ensures within { IfOk result (λ h. (length h.widths.now ≤ length widths.old) × (length h.nets.now ≤ length nets.old)) }
 {
     let cells = read_cells(s, widths)?;
     let mut p = cells.progress;

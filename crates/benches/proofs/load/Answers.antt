@@ -45,12 +45,12 @@ returns-clause-loaded c R t =
     let a = c.args in
     let many = cells_are R a.width a.places.now t in
     elim c.else-head_fits.branch [
-      else-head_fits-via-then-head_fits+then-zero_from+else-parts_fit w ↦
+      | else-head_fits-via-then-head_fits+then-zero_from+else-parts_fit w ↦
           refused_parts R a.bench.now c.read-head.result c.read-head.ensures _ many _ _ a.width (starts_of a.places.now) t
           (head_told _ _ (sym c.head_fits.ensures ∙ w.if-head_fits.true))
           (sym w.zero_from.ensures ∙ w.if-zero_from.true) _ w.parts_fit.ensures.parted w.if-parts_fit.false
-    | else-head_fits-via-then-head_fits+else-zero_from w ↦
+      | else-head_fits-via-then-head_fits+else-zero_from w ↦
           refused_zeros R a.bench.now c.read-head.result c.read-head.ensures _ many [] [] (sym w.zero_from.ensures ∙ w.if-zero_from.false)
-    | else-head_fits-via-else-head_fits w ↦
+      | else-head_fits-via-else-head_fits w ↦
           refused_head R a.bench.now c.read-head.result c.read-head.ensures _ many [] [] (sym c.head_fits.ensures ∙ w.if-head_fits.false)
     ]

@@ -20,13 +20,14 @@ returns-then-not-cells_fit-clause-parted c =
     c.u16_at-cells.result c.u32_at-edge.result _ c.u16_at-cells.ensures c.u32_at-edge.ensures (omega arith) c.settled-settled.ensures c.loop-k-test.true
     (first_fails _ _ (sym c.cells_fit.ensures ∙ c.if-not-cells_fit.true))
 
+-- the edge's test, by the column of starts
 edge_told :
     (c : After-edge_fits) →
     let starts = starts_of c.args.places.now in
     let l = c.loop-k in
     c.edge_fits.result ≡ edge_fits (nat_lt l.k c.settled-settled.result) c.u32_at-edge.result
-        (ends_by l.left c.u32_at-edge.result (get_or starts l.last 0) (get_or starts l.first 0))
-        (ends_by c.u32_at-edge.result c.args.width (get_or starts l.first 0) (get_or starts (l.first + c.from.result) 0))
+    (ends_by l.left c.u32_at-edge.result (get_or starts l.last 0) (get_or starts l.first 0))
+    (ends_by c.u32_at-edge.result c.args.width (get_or starts l.first 0) (get_or starts (l.first + c.from.result) 0))
 edge_told c =
     let places = c.args.places.now in
     let l = c.loop-k in

@@ -1,6 +1,5 @@
 -- `store_head`: zeros, and eleven bytes written over them.
 use Rattle.std.proofs.Common.{◌≡◌, ap, ◌∙◌, ℕ, List, cond, set, replicate}
-use mir.Val.{bool_byte}
 use Rattle.rules.specs.Sizes.{bench_size}
 use Rattle.benches.specs.StoreLaws.{bool_byte_lem, put16, put32, head_stored}
 use Rattle.benches.proofs.store_head.Goals as goal

@@ -1,5 +1,5 @@
 -- `run`: the test says of the bench that the run so far leaves whether that is finished, and a step more is a run of one step more.
-use Rattle.std.proofs.Common.{◌≡◌, ◌+◌, length, sym, ◌∙◌, arith}
+use Rattle.std.proofs.Common.{◌≡◌, sym, ◌∙◌, arith}
 use Rattle.rules.specs.Row.{Row}
 use Rattle.rules.specs.Steps.{Bench as Meant, finished, run}
 use Rattle.slopes.specs.Runs.{run_zero, taken_zero, run_past, taken_past}
@@ -43,8 +43,7 @@ loop-preserved c = record {
   stands =
       λ R b w laid stands.
       let old = c.loop.invariant.stands R b w laid stands in
-      let f = sym (test_is (goal.at.loop-preserved c).After-finished R b w laid stands) ∙ c.if-finished.false in
-      (
+      let f = sym (test_is (goal.at.loop-preserved c).After-finished R b w laid stands) ∙ c.if-finished.false in (
         rw (run_next R c.loop.counter b f) (c.step-bench.ensures R (run R c.loop.counter b) w laid old.0 f),
         taken_next R c.loop.counter b f old.1,
       );
@@ -60,8 +59,7 @@ pub returns-then-finished : goal.returns-then-finished
 returns-then-finished c R b w laid stands =
     let l = c.loop in
     let old = l.invariant.stands R b w laid stands in
-    let f = sym (test_is (goal.at.returns-then-finished c).After-finished R b w laid stands) ∙ c.if-finished.true in
-    (
+    let f = sym (test_is (goal.at.returns-then-finished c).After-finished R b w laid stands) ∙ c.if-finished.true in (
       rw (run_past R l.counter c.args.budget b (omega arith) f) old.0,
       omega (arith, taken_past R l.counter c.args.budget b (omega arith) f, old.1),
     )

@@ -11,7 +11,7 @@ whole_as_slice-read_row-2 g c = omega (arith, c.requires.few_nets)
 
 pub returns-in_err-sheet : goal.returns-in_err-sheet
 returns-in_err-sheet g c =
-    let e = check_err c.args.row.now c.in_err-sheet.field-0.0 c.in_err-sheet.ensures in search rules
+    let e = check_err c.args.row.now c.in_err-sheet.field-0.0 c.in_err-sheet.ensures.reads in search rules
 
 pub returns : goal.returns
-returns g c = check_ok c.args.row.now c.in_ok-sheet.sheet c.in_ok-sheet.ensures
+returns g c = check_ok c.args.row.now c.in_ok-sheet.sheet c.in_ok-sheet.ensures.reads

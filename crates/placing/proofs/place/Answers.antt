@@ -1,42 +1,58 @@
 -- `place`: a bench that is not in form or not finished is answered so at once; else the clumps are put, and what they leave is measured.
-use Rattle.std.proofs.Common.{◌≡◌, true, sym, ◌∙◌, arith}
-use Rattle.std.proofs.lemmas.Bool.{not-false}
+use Rattle.std.proofs.Common.{◌≡◌, ◌≤◌, true, sym, ◌∙◌, length, length-take-le, take, arith, ◌+◌}
 use Rattle.rules.specs.Row.{Row}
 use Rattle.rules.specs.Steps.{finished}
 use Rattle.rules.specs.Bench.{bench_of, in_form}
 use Rattle.reading.specs.Reads.{Holds}
-use Rattle.benches.specs.Saved.{Loaded}
+use Rattle.changes.specs.Columns.{cells_of, edges_of}
+use Rattle.layout.specs.Columns.{starts_of}
+use Rattle.benches.specs.Saved.{Tells}
+use Rattle.benches.specs.ColumnLaws.{starts_length}
 use Rattle.placing.specs.Puts.{Ready}
-use Rattle.placing.specs.PlacedLaws.{held_told, finished_told, ready, after_measurable, after_measured, placed_unfinished, placed_finished}
+use Rattle.placing.specs.PlacedLaws.{held_told, finished_told, clumps_fit, ready, after_measurable, after_measured, placed_unfinished, placed_finished}
 use Rattle.placing.proofs.place.Goals.{After-is_finished}
 use Rattle.placing.proofs.place.Goals as goal
 
 -- past the first test the bench is in form, and the second asks whether it is finished
 module _ (c : After-is_finished) (R : Row) (held : Holds c.args.sheet.width c.args.sheet.widths.now c.args.sheet.nets.now R) where
-  -- the bench, told for the row
-  loaded : Loaded R c.args.bench.now c.load-saved.new.cells c.load-saved.new.edges c.load-saved.result
-  loaded = c.load-saved.ensures.loaded R (held_told _ _ _ R held _ c.lay_starts.ensures.0)
+  many : length (starts_of c.lay_starts.new.places) ≡ length c.args.sheet.widths.now + 1
+  many = starts_length c.lay_starts.new.places ∙ c.lay_starts.ensures.starts.1 ∙ length-take-le _ c.args.places.now c.requires.bench_len.1
 
-  form : in_form R c.args.bench.now ≡ true
-  form = sym loaded.form ∙ not-false _ c.if-not-saved.false
+  -- the bench, told for the row
+  loaded : (in_form R c.args.bench.now ≡ true) × Tells c.args.bench.now (cells_of c.load.new.clumps) (edges_of c.load.new.clumps) c.in-Some.saved
+  loaded = c.in-Some.ensures.loaded R (held_told _ _ _ R held _ many c.lay_starts.ensures.starts.0)
 
   asked : c.is_finished.result ≡ finished R (bench_of R c.args.bench.now)
-  asked = c.is_finished.ensures ∙ finished_told _ _ _ R held _ _ _ _ loaded form
+  asked = c.is_finished.ensures ∙ finished_told _ _ _ R held _ _ _ loaded.0 loaded.1
+
+  -- its clumps lie in the list lent for them
+  in_list : length c.args.sheet.widths.now ≤ length c.load.new.clumps
+  in_list = omega (arith, c.load.ensures.clumps_len_unchanged, c.requires.bench_len)
+
+  fit : c.in-Some.saved.clumps ≤ length c.load.new.clumps
+  fit = clumps_fit _ _ _ R held _ _ _ loaded.0 loaded.1 in_list
 
   -- past the second it is finished
   module _ (yes : c.is_finished.result ≡ true) where
     ends : finished R (bench_of R c.args.bench.now) ≡ true
     ends = sym asked ∙ yes
 
-    is_ready : Ready R c.args.bench.now c.load-saved.result.clumps c.load-saved.new.cells c.load-saved.new.edges c.args.sheet.widths.now c.args.placement.now
-    is_ready =
-        ready _ _ _ R held _ _ _ _ loaded form c.args.placement.now c.requires.bench_len.4 (omega (arith, c.requires.bench_len.2))
-        (omega (arith, c.requires.bench_len.3)) ends
+    is_ready :
+        Ready R c.args.bench.now (cells_of (take c.in-Some.saved.clumps c.load.new.clumps))
+        (edges_of (take c.in-Some.saved.clumps c.load.new.clumps)) c.args.sheet.widths.now c.args.placement.now
+    is_ready = ready _ _ _ R held _ _ _ loaded.0 loaded.1 c.args.placement.now (omega (arith, c.requires.bench_len)) in_list ends
 
 pub returns-then-not-is_finished : goal.returns-then-not-is_finished
 returns-then-not-is_finished c R held =
     let i = (goal.at.returns-then-not-is_finished c).After-is_finished in
-    placed_unfinished R c.args.bench.now c.args.placement.now (form i R held) (sym (asked i R held) ∙ c.if-not-is_finished.true)
+    placed_unfinished R c.args.bench.now c.args.placement.now (loaded i R held).0 (sym (asked i R held) ∙ c.if-not-is_finished.true)
+
+pub slice_bounds-put_clumps-end : goal.slice_bounds-put_clumps-end
+slice_bounds-put_clumps-end c = fit (goal.at.slice_bounds-put_clumps-end c).After-is_finished c.requires.holds.0 c.requires.holds.1
+
+pub slice_bounds-put_clumps-end-2 : goal.slice_bounds-put_clumps-end-2
+slice_bounds-put_clumps-end-2 c =
+    sym (length-take-le _ _ (fit (goal.at.slice_bounds-put_clumps-end-2 c).After-is_finished c.requires.holds.0 c.requires.holds.1))
 
 pub put_clumps-requires : goal.put_clumps-requires
 put_clumps-requires c =
@@ -51,7 +67,7 @@ netlength-requires c =
     let held = c.requires.holds.1 in
     let yes = c.if-not-is_finished.false in (
       R.widths,
-      after_measurable _ _ _ R held c.args.bench.now (form i R held) (ends i R held yes) c.put_clumps.new.placement
+      after_measurable _ _ _ R held c.args.bench.now (loaded i R held).0 (ends i R held yes) c.put_clumps.new.placement
           (c.put_clumps.ensures R c.args.bench.now (is_ready i R held yes)),
     )
 
@@ -60,7 +76,7 @@ returns c R held =
     let i = (goal.at.returns c).After-is_finished in
     let bench = c.args.bench.now in
     let after = c.put_clumps.new.placement in
-    let f = form i R held in
+    let f = (loaded i R held).0 in
     let yes = c.if-not-is_finished.false in
     let e = ends i R held yes in
     let w = c.put_clumps.ensures R bench (is_ready i R held yes) in

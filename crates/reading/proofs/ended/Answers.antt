@@ -1,5 +1,4 @@
 -- EN, with the tail (3), the widths (6), and else the row.
-use Rattle.std.proofs.Common.{◌≡◌, ◌∙◌, sym, length, drop}
 use Rattle.reading.specs.ReadingLaws.{record_fits}
 use Rattle.reading.specs.Ending.{says_tail, says_full, says_taken}
 use Rattle.reading.proofs.ended.Goals as goal

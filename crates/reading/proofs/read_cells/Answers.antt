@@ -8,7 +8,7 @@ use Rattle.records.specs.Answers.{answers_may}
 use Rattle.records.specs.Recorded.{row_record}
 use Rattle.records.specs.Within.{within_small, within_start}
 use Rattle.reading.specs.ReadingLaws.{record_fits}
-use Rattle.reading.specs.Cells.{row_read, row_refused, first_cells, sum_small, more_cells, cell_read, cell_refused, cells_through}
+use Rattle.reading.specs.Cells.{row_read, row_refused, first_cells, sum_small, more_cells, cell_read, cell_refused}
 use Rattle.reading.proofs.read_cells.Goals.{In_ok-first, In_ok-w}
 use Rattle.reading.proofs.read_cells.Goals as goal
 
@@ -81,9 +81,3 @@ loop-k-preserved c =
       stands = rw (c.rest-t-in-loop-k.ensures, c.after-p-in-loop-k.ensures, i.filled)
           (more_cells _ l.widths l.sum l.p l.t.now i.reading i.stands w (turn (goal.at.loop-k-preserved c).In_ok-w));
     }
-
-pub returns : goal.returns
-returns c =
-    let l = c.loop-k in
-    let i = l.invariant in
-    ((i.reading, cells_through _ l.widths _ i.reading i.stands (omega arith)), l.auto.widths)

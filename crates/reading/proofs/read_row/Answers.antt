@@ -1,11 +1,10 @@
 -- A whole row: what the cells left is handed on to the nets, each record that goes on carries the reading on, and EN ends it.
-use Rattle.std.proofs.Common.{◌≡◌, Ok, refl, sym, ◌∙◌}
+use Rattle.std.proofs.Common.{◌≡◌, Ok, refl}
 use Rattle.std.proofs.lemmas.Result.{err_from_is_err_and}
 use Rattle.rules.specs.Records.{record_at}
 use Rattle.rules.specs.Reading.{after}
-use Rattle.records.specs.Within.{within_small}
 use Rattle.reading.specs.ReadingLaws.{going, record_fits, shorter}
-use Rattle.reading.specs.Nets.{first_nets, slot, net_read, net_refused, more_nets}
+use Rattle.reading.specs.Nets.{first_nets, net_read, net_refused, more_nets}
 use Rattle.reading.specs.Ending.{Closing, reads_taken, reads_refused}
 use Rattle.reading.proofs.read_row.Goals.{In_ok-r, In-En}
 use Rattle.reading.proofs.read_row.Goals as goal
@@ -19,44 +18,30 @@ closing : (c : In-En) → record_at c.loop-r.invariant.0 c.loop-r.t.now ≡ Ok c
     → Closing c.args.s.now c.in_ok-cells.cells.sum c.loop-r.p c.loop-r.t.now c.loop-r.invariant.0
 closing c is = record { widths = _; underway = c.loop-r.invariant.1.underway; is = rw c.in-En.is at is }
 
-pub returns-in_err-cells : goal.returns-in_err-cells
-returns-in_err-cells c =
-    let e = err_from_is_err_and c.from_residual.result c.from_residual.ensures.1 in
-    rw (e.1, e.2) (reads_refused _ _ c.in_err-cells.ensures.0)
-
 pub loop-r-init : goal.loop-r-init
 loop-r-init c =
     let h = c.in_ok-cells in
     let q = h.ensures.0 in
     (q.0, first_nets _ _ h.cells _ q.0 q.1 c.requires.for_nets)
 
-pub returns-in_err-r : goal.returns-in_err-r
-returns-in_err-r c =
+pub returns-in_err-r-clause-reads : goal.returns-in_err-r-clause-reads
+returns-in_err-r-clause-reads c =
     let e = err_from_is_err_and c.from_residual-in_err-r.result c.from_residual-in_err-r.ensures.1 in
     rw (e.1, e.2)
     (reads_refused _ _ (net_refused _ _ _ _ _ _ _ _ c.loop-r.invariant.1 _ c.read_in_nets.ensures _ c.in_err-r.ensures))
 
-pub close-requires : goal.close-requires
-close-requires c = slot _ _ _ _ _ _ _ _ c.loop-r.invariant.1
-
-pub ended-requires : goal.ended-requires
-ended-requires c = (_, (_, closing c (turn (goal.at.ended-requires c).In_ok-r)))
-
-pub returns-in_err-ended : goal.returns-in_err-ended
-returns-in_err-ended c =
-    let k = goal.at.returns-in_err-ended c in
+pub returns-in_err-ended-clause-reads : goal.returns-in_err-ended-clause-reads
+returns-in_err-ended-clause-reads c =
+    let k = goal.at.returns-in_err-ended-clause-reads c in
     let e = err_from_is_err_and c.from_residual-in_err-ended.result c.from_residual-in_err-ended.ensures.1 in
     rw (e.1, e.2) (reads_refused _ _ (c.in_err-ended.ensures _ _ (closing k.In-En (turn k.In_ok-r))))
 
-pub returns-in-En : goal.returns-in-En
-returns-in-En c =
-    let k = goal.at.returns-in-En c in
+pub returns-in-En-clause-reads : goal.returns-in-En-clause-reads
+returns-in-En-clause-reads c =
+    let k = goal.at.returns-in-En-clause-reads c in
     let is = turn k.In_ok-r in
     reads_taken _ _ _ _ _ _ _ _ c.loop-r.invariant.1 (rw c.in-En.is at is) (c.in_ok-ended.ensures _ _ (closing k.In-En is))
     _ refl refl (rw (c.close.ensures, c.in-En.is) refl)
-
-pub after-p-requires : goal.after-p-requires
-after-p-requires c = let u = c.loop-r.invariant.1.underway in within_small u.shows u.good.within
 
 pub rest-t-requires : goal.rest-t-requires
 rest-t-requires c = record_fits c.loop-r.invariant.0 c.loop-r.t.now c.in_ok-r.r (turn (goal.at.rest-t-requires c).In_ok-r)

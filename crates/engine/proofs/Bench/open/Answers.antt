@@ -1,1 +1,0 @@
-use Rattle.engine.proofs.Bench.open.Goals as goal

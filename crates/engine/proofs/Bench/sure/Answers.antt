@@ -1,1 +1,0 @@
-use Rattle.engine.proofs.Bench.sure.Goals as goal
