@@ -26,8 +26,8 @@ module _ (c : After-from) where
   within =
       let r = c.requires.1 in
       elim c.if-held.branch [
-        then-held w ↦ omega (arith, one_more w.if-held.true, hand_within r.0 c.args.left c.args.clumps.now r.1.0 r.1.1.0 w.if-held.true)
-      | else-held w ↦ omega (arith, none_more w.if-held.false, left_within r.0 c.args.left c.args.clumps.now r.1.0 r.1.1.0 r.1.1.1)
+        | then-held w ↦ omega (arith, one_more w.if-held.true, hand_within r.0 c.args.left c.args.clumps.now r.1.0 r.1.1.0 w.if-held.true)
+        | else-held w ↦ omega (arith, none_more w.if-held.false, left_within r.0 c.args.left c.args.clumps.now r.1.0 r.1.1.0 r.1.1.1)
       ]
 
   count : length (take (c.args.left.settled + c.from.result) c.if-held.clumps) ≡ c.args.left.settled + c.from.result
@@ -54,10 +54,10 @@ returns c R m n v =
     let clumps = c.args.clumps.now in
     c.store.ensures m
     (elim c.if-held.branch [
-      then-held w ↦
+      | then-held w ↦
           rw (ne_eqb e.first e.opened w.if-held.true, one_more d w.if-held.true)
           (written_with R e clumps m n w.if-held.true v _ refl refl c.if-held.clumps w.clumps-is)
-    | else-held w ↦
+      | else-held w ↦
           rw (eq-eqb e.first e.opened w.if-held.false, none_more d w.if-held.false, w.clumps-is, add-zero)
           (written_without R e clumps m n w.if-held.false v)
     ])

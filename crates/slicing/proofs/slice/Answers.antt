@@ -43,7 +43,7 @@ lay_out-requires c =
 -- a bench in form, of the row that was read by what was kept of it
 begins : (c : After-lay_out) (R : Row) → Holds c.args.sheet.width c.args.sheet.widths.now c.args.sheet.nets.now R
     → Begins R c.args.bench.now c.in-Some.saved c.args.sheet.width (layout_of c.lay_out.new.places c.lay_out.new.changes)
-        (lists_of c.load.new.clumps c.args.keys.now)
+    (lists_of c.load.new.clumps c.args.keys.now)
 begins c R holds =
     let s = started c.requires.lent c.lay_starts.ensures.starts c.lay_starts.ensures.others in
     begins_by holds c.requires.lent s _ _ _ _ _ (c.in-Some.ensures.loaded R (told_by holds s)) c.load.ensures.clumps_len_unchanged
