@@ -4,6 +4,7 @@ use Rattle.std.proofs.Math.Path.{refl}
 use Rattle.std.proofs.Common.{sym, ap, ◌∙◌, arith}
 use Rattle.std.proofs.Math.ListN.{length-set}
 use Rattle.std.proofs.Math.Seq.{take-suc-set}
+use Rattle.std.proofs.lemmas.Bool.{false≢true}
 use Rattle.std.proofs.lemmas.List.{ext_get_or, get_or-take, length-take-le}
 use mathlib.Core.List.{map-append, reverse-cons}
 use Rattle.numbers.specs.Bytes.{u16_at}
@@ -29,7 +30,7 @@ use Rattle.nets.specs.declared.Draft.{Draft}
 use Rattle.reading.specs.ReadingLaws.{goes_on}
 use Rattle.reading.specs.SoundLaws.{behind}
 use Rattle.reading.specs.Reads.{placed, closes_net, closed_by}
-use Rattle.reading.specs.Underway.{Underway, next_other, says_refused, unlike, placed_ok, placed_err}
+use Rattle.reading.specs.Underway.{Underway, next_other, says_refused, placed_ok, placed_err}
 use Rattle.reading.specs.Cells.{Through}
 use Rattle.reading.specs.declared.Cells.{Cells}
 
@@ -143,9 +144,9 @@ module _ (s ws : List ℕ) (sum : ℕ) (p : Progress) (t : List ℕ) (d : Option
   at_nets = record { started = i.started; all_cells = i.all_cells }
 
   -- what was read is the record that stands next, or a refusal of the row
-  module _ (read : Result Record Refusal) (told : (x : Reading) → Shows p ws x → AtNets x → length ws ≡ p.cells → read ≡ record_at x t) where
+  module _ (read : Result Record Refusal) (told : (x : Reading) → Shows p ws x → AtNets x → read ≡ record_at x t) where
     stands_next : read ≡ record_at c t
-    stands_next = told c i.underway.shows at_nets (omega (arith, ap length i.exact, i.all_cells, i.underway.shows.cells))
+    stands_next = told c i.underway.shows at_nets
 
     pub net_read : (r : Record) → Ok r ≡ placed p.place read → record_at c t ≡ Ok r
     net_read r e = sym stands_next ∙ placed_ok p.place read r e
@@ -175,16 +176,16 @@ module _ (s ws : List ℕ) (sum : ℕ) (p : Progress) (t : List ℕ) (d : Option
 
   opens : (r : Record) → May c r → goes_on r ≡ true → Opens c (closed_by r p d ns) r
   unfolding after
-  opens (Rw w n m) h g = absurd (unlike (sym h.first ∙ i.started))
+  opens (Rw w n m) h g = absurd (false≢true (sym h.first ∙ i.started))
   opens (Ce w) h g = absurd (omega (arith, h.fewer, i.all_cells))
   opens (Nt w) h g = record { head = refl; widths = refl; stored = all_stored (Nt w) refl }
   opens (Fp x) h g =
       record { head = refl; widths = refl; stored = rw (kept_by p (Fp x) d ns refl) (pin_behind_stored c.head.width ns (fixed x) c.nets i.stored) }
   opens (Mp k o) h g =
       record { head = refl; widths = refl; stored = rw (kept_by p (Mp k o) d ns refl) (pin_behind_stored c.head.width ns (on k o) c.nets i.stored) }
-  opens En h g = absurd (unlike g)
+  opens En h g = absurd (false≢true g)
 
-  -- what takes the record takes it for the open net
+  -- a record that goes on carries the reading on, where what takes it takes it for the open net
   pub more_nets : (r : Record) → record_at c t ≡ Ok r → goes_on r ≡ true → (d' : Option Draft) → Drafting d' (after c r).nets
       → InNets s ws sum (progress_after p r) (drop (takes r) t) d' (closed_by r p d ns) (after c r)
   more_nets r is going d' draft =

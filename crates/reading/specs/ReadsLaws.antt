@@ -1,6 +1,6 @@
 -- What follows from the answer of reading a row: it tells what the bytes are, the bytes tell it, and every net that is
 -- held is tied to cells of the row.
-use Rattle.std.specs.Prelude.{ℕ, zero, suc, ◌≤◌, ◌<◌, ◌≡◌, refl, length, get_or, Ok, Err}
+use Rattle.std.specs.Prelude.{ℕ, zero, suc, ◌≤◌, ◌<◌, ◌≡◌, refl, length, get_or, Result, Ok, Err}
 use Rattle.std.proofs.Common.{sym, ◌∙◌, subst, ⊎_elim, arith}
 use Rattle.std.proofs.lemmas.List.{get_or-map}
 use mathlib.Core.List.Memᴰ.{cases_cons}
@@ -43,10 +43,20 @@ reads_err (refused q place) f r = rw r refl
 
 -- ---- two answers of the same bytes
 
--- two rows that were read are the same in every part
-pub holds_once : (R : Row) (h k : Sheet) → Holds h.width h.widths.now h.nets.now R → Holds k.width k.widths.now k.nets.now R
-    → (h.width ≡ k.width) × ((h.widths.now ≡ k.widths.now) × (h.nets.now ≡ k.nets.now))
-holds_once R h k a b = (a.width_is ∙ sym b.width_is, (a.widths_are ∙ sym b.widths_are, a.nets_are ∙ sym b.nets_are))
+-- two rows that were read are the same in every part, and two refusals are the same
+abbrev pub Alike : Result Sheet Refused → Result Sheet Refused → Type 0
+Alike (Ok h) (Ok k) = (h.width ≡ k.width) × (h.widths.now ≡ k.widths.now) × (h.nets.now ≡ k.nets.now)
+Alike (Ok h) (Err f) = ⊥
+Alike (Err f) (Ok h) = ⊥
+Alike (Err f) (Err g) = f ≡ g
+
+pub reads_once : (x : Read) (a b : Result Sheet Refused) → Reads x a → Reads x b → Alike a b
+reads_once (taken R) (Ok h) (Ok k) p q = (p.width_is ∙ sym q.width_is, p.widths_are ∙ sym q.widths_are, p.nets_are ∙ sym q.nets_are)
+reads_once (taken R) (Ok h) (Err f) p q = q
+reads_once (taken R) (Err f) b p q = absurd p
+reads_once (refused q place) (Ok h) b p r = absurd p
+reads_once (refused q place) (Err f) (Ok h) p r = r
+reads_once (refused q place) (Err f) (Err g) p r = p ∙ sym r
 
 -- ---- the nets of a sound row
 

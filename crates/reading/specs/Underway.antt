@@ -1,6 +1,6 @@
 -- How the variables of the code stand for a reading that is under way, what one record more makes of them, and what a refusal of the
 -- next record makes of the row. Said of the definitions alone, so that the code's proofs only cite it.
-use Rattle.std.specs.Prelude.{ℕ, ◌+◌, ◌≤◌, ◌<◌, ◌≡◌, List, true, false, get_or, set, drop, Result, Ok, Err}
+use Rattle.std.specs.Prelude.{ℕ, ◌+◌, ◌≤◌, ◌<◌, ◌≡◌, List, true, get_or, set, drop, Result, Ok, Err}
 use Rattle.std.proofs.Math.Path.{refl, sym}
 use Rattle.std.proofs.Common.{ap, ◌∙◌, arith}
 use Rattle.std.proofs.Math.ListN.{length, length-set}
@@ -63,10 +63,7 @@ module _ (s ws : List ℕ) (sum : ℕ) (p : Progress) (t : List ℕ) (c : Readin
 
 -- ---- what a reader of one record answered
 
-pub unlike : false ≡ true → ⊥
-unlike e = let z : ◌≡◌ {A = ℕ} 0 1 = cc in omega arith
-
--- of what was read, the record, or a refusal at its place
+-- what was read, or its refusal at the record's place
 module _ {A : Type 0} (place : ℕ) (read : Result A Refusal) where
   pub placed_ok : (x : A) → Ok x ≡ placed place read → read ≡ Ok x
   placed_ok x = go read
@@ -82,6 +79,7 @@ module _ {A : Type 0} (place : ℕ) (read : Result A Refusal) where
       go (Ok y) e = cc
       go (Err q) e = (cc, cc)
 
+  -- read as the record that stands next
   module _ (g : A → Record) (a : Result Record Refusal) (told : recorded g read ≡ a) where
     pub recorded_ok : (x : A) → Ok x ≡ placed place read → a ≡ Ok (g x)
     recorded_ok x e = sym told ∙ ap (recorded g) (placed_ok x e)

@@ -1,6 +1,5 @@
 // Reading a whole row where the broker holds it (document 01, "The row as bytes"): one RW, n CE, then the records of m nets, then EN, the
-// tail (3) and the widths (6). Of a net only its summary is kept, and put into
-// a lent list when the next NT or EN closes it.
+// tail (3) and the widths (6). Of a net only its summary is kept, and put into a lent list when the next NT or EN closes it.
 #![tactic(auto)]
 
 ghost use Rattle.std.specs.Prelude.{IfOk, ◌≡◌, List, ℕ, ◌≤◌, min, length, IfSome};

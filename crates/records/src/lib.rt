@@ -225,12 +225,14 @@ fn read_fixed(p: Progress, s: &[u8]) -> Result<Record, Refusal>
 
 // MP: a pin of the open net on a cell.
 fn read_pin(p: Progress, widths: &[u32], s: &[u8]) -> Result<Record, Refusal>
-    ensures { (c : Reading) → Shows p widths.now c → AtNets c → length widths.now ≡ p.cells → result ≡ marked c PinMark s.now }
+    requires { p.cells ≤ length widths.now }
+    ensures { (c : Reading) → Shows p widths.now c → AtNets c → result ≡ marked c PinMark s.now }
 {
     if p.opened == 0 {
         return Err(Refusal::WrongMark);
     }
     whole(Mark::PinMark, s)?;
+    let widths = &widths[..p.cells];
     pin_of(numbers::u16_at(s, 2), numbers::u32_at(s, 4), p.pins, widths)
 }
 
@@ -250,7 +252,8 @@ fn read_end(p: Progress) -> Result<Record, Refusal>
 
 // A record once all widths are read: of a net, or EN.
 pub fn read_in_nets(p: Progress, widths: &[u32], s: &[u8]) -> Result<Record, Refusal>
-    ensures { (c : Reading) → Shows p widths.now c → AtNets c → length widths.now ≡ p.cells → result ≡ record_at c s.now }
+    requires { p.cells ≤ length widths.now }
+    ensures { (c : Reading) → Shows p widths.now c → AtNets c → result ≡ record_at c s.now }
 {
     match mark_at(s)? {
         Mark::RowMark | Mark::CellMark => Err(Refusal::WrongMark),

@@ -1,6 +1,5 @@
 -- RW and the cells: the variables stand for a reading in the cells, and each CE carries it on.
 use Rattle.std.proofs.Common.{◌≡◌, Ok, refl, sym, arith}
-use Rattle.std.proofs.lemmas.Result.{err_from_is_err_and}
 use Rattle.rules.specs.Records.{record_at}
 use Rattle.rules.specs.Reading.{start, after}
 use Rattle.rules.specs.declared.Record.TheVariants.{Ce}
@@ -9,6 +8,7 @@ use Rattle.records.specs.Recorded.{row_record}
 use Rattle.records.specs.Within.{within_small, within_start}
 use Rattle.reading.specs.ReadingLaws.{record_fits}
 use Rattle.reading.specs.Cells.{row_read, row_refused, first_cells, sum_small, more_cells, cell_read, cell_refused}
+use Rattle.reading.proofs.Exits.{same_refused}
 use Rattle.reading.proofs.read_cells.Goals.{In_ok-first, In_ok-w}
 use Rattle.reading.proofs.read_cells.Goals as goal
 
@@ -26,8 +26,7 @@ turn c =
 pub returns-in_err-first : goal.returns-in_err-first
 returns-in_err-first c =
     let ws = c.args.widths.now in
-    let e = err_from_is_err_and c.from_residual.result c.from_residual.ensures.1 in
-    rw (e.1, e.2)
+    rw (same_refused c.from_residual.result _ c.from_residual.ensures.1)
     (row_refused c.args.s.now _ _ c.read_first.ensures ws (c.start-p.ensures ws) _ c.in_err-first.ensures, refl)
 
 pub after-p-requires : goal.after-p-requires
@@ -54,8 +53,7 @@ pub returns-in_err-w : goal.returns-in_err-w
 returns-in_err-w c =
     let l = c.loop-k in
     let i = l.invariant in
-    let e = err_from_is_err_and c.from_residual-in_err-w.result c.from_residual-in_err-w.ensures.1 in
-    rw (e.1, e.2)
+    rw (same_refused c.from_residual-in_err-w.result _ c.from_residual-in_err-w.ensures.1)
     (cell_refused _ l.widths l.sum l.p l.t.now i.reading i.stands _ (omega arith) c.read_cell.ensures _ c.in_err-w.ensures, l.auto.widths)
 
 pub overflow_add-sum : goal.overflow_add-sum
