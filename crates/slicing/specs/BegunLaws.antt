@@ -16,7 +16,6 @@ use Rattle.benches.specs.Saved.{Tells}
 use Rattle.benches.specs.MadeLaws.{clump_cells, clump_edge}
 use Rattle.benches.specs.FormLaws.{Formed, formed, by_hand, settled_are, bench_with, bench_without, clumps_least}
 use Rattle.benches.specs.BackLaws.{clumps_count, bench_opened, bench_carried}
-use Rattle.engine.specs.declared.Bench.{Bench}
 use Rattle.engine.specs.Stands.{Listed, Numbers}
 use Rattle.slicing.specs.Begun.{begun}
 
@@ -40,11 +39,8 @@ module _ (R : Row) (s cells edges : List ℕ) (r : Saved) (form : in_form R s �
   few_carried : (bench_of R s).carried + most_changes * (length (all_clumps (bench_of R s).hand (bench_of R s).settled) + (length R.widths - (bench_of R s).opened)) ≤ most_carried + most_changes * most_cells
   few_carried = omega (arith, bench_carried R s f, f.carried_few, proper_clumps R (bench_of R s) proper, bench_opened R s f, f.within)
 
-  abbrev start : Bench
-  start = begun r.opened r.held r.clumps r.carried cells
-
   -- nothing in hand
-  begun_without : saved_hand s ≡ 0 → Numbers R start cells edges (bench_of R s)
+  begun_without : saved_hand s ≡ 0 → Numbers R (begun r cells) cells edges (bench_of R s)
   begun_without e =
       let held : r.held ≡ false = tells.held ∙ rw e refl in
       let b = bench_without R s e in
@@ -56,8 +52,8 @@ module _ (R : Row) (s cells edges : List ℕ) (r : Saved) (form : in_form R s �
         apart_all = rw (settled_are R s f.hand_bit f.hand_clump) f.stand_apart;
         few_carried = few_carried;
         opened_is = tells.opened ∙ sym (bench_opened R s f);
-        first_is = tells.opened ∙ sym (bench_opened R s f) ∙ sym proper.all_cells ∙ ap (λ (x : Meant). cells_in (all_clumps x.hand x.settled)) b ∙ ap cells_in (sym settled);
-        settled_is = tells.clumps ∙ sym (ap length settled ∙ clumps_count R s (saved_clumps s));
+        first_is = omega (arith, tells.opened, bench_opened R s f, proper.all_cells, ap (λ (x : Meant). cells_in (all_clumps x.hand x.settled)) b, ap cells_in settled);
+        settled_is = omega (arith, tells.clumps, ap length settled, clumps_count R s (saved_clumps s));
         carried_is = tells.carried ∙ sym (bench_carried R s f);
         listed = rw settled (listed_to (saved_clumps s) (omega arith));
       })
@@ -82,7 +78,7 @@ module _ (R : Row) (s cells edges : List ℕ) (r : Saved) (form : in_form R s �
         clump_cells R s (saved_clumps s - 1) (f.have_cells (saved_clumps s - 1) (omega arith)),
       ))
 
-  begun_with : saved_hand s ≡ 1 → Numbers R start cells edges (bench_of R s)
+  begun_with : saved_hand s ≡ 1 → Numbers R (begun r cells) cells edges (bench_of R s)
   begun_with e =
       let some : 1 ≤ saved_clumps s = omega (arith, f.hand_clump) in
       let held : r.held ≡ true = tells.held ∙ rw e refl in
@@ -101,7 +97,7 @@ module _ (R : Row) (s cells edges : List ℕ) (r : Saved) (form : in_form R s �
         listed = rw settled (listed_to (saved_clumps s - 1) (omega arith));
       })
 
-  pub begun_numbers : Numbers R start cells edges (bench_of R s)
+  pub begun_numbers : Numbers R (begun r cells) cells edges (bench_of R s)
   begun_numbers = by_hand R s f.hand_bit begun_without begun_with
 
   -- what making them asks

@@ -1,19 +1,22 @@
 -- What the engine leaves is the bench that is written (document 01, "The bench"): its settled clumps in order and, if there is one, the clump in
 -- hand after them.
-use Rattle.std.specs.Prelude.{ℕ, ◌+◌, ◌-◌, ◌≤◌, ◌<◌, ◌≡◌, ◌≢◌, Bool, true, false, cond, ◌&&◌, get_or, set, eqb, leb}
+use Rattle.std.specs.Prelude.{ℕ, ◌+◌, ◌-◌, ◌≤◌, ◌<◌, ◌≡◌, ◌≢◌, Bool, true, false, cond, ◌&&◌, get_or, set, take, eqb, leb}
 use Rattle.std.proofs.Math.Path.{refl, sym}
-use Rattle.std.proofs.Common.{ap, ◌∙◌, ⊎_elim, eq-or-lt_of_le, le_of_suc-le-suc, length-append, get_or-append-add, get_or-set_same, get_or-set_other, eq-eqb, ne_eqb}
+use Rattle.std.proofs.Common.{ap, ◌∙◌, ⊎_elim, eq-or-lt_of_le, le_of_suc-le-suc, length-append, length-set, get_or-append-add, get_or-set_same, get_or-set_other, eq-eqb, ne_eqb}
 use mathlib.Core.List.{List, [], ◌∷◌, ◌++◌, reverse, reverse-cons, append-nil}
 use native.Mathlib.Omega.{arith}
 use Rattle.std.proofs.Math.ListN.{length, get_or-append}
-use Rattle.std.proofs.lemmas.List.{length-reverse}
+use Rattle.std.proofs.lemmas.List.{length-reverse, length-take-le, get_or-take, take-map}
 use Rattle.rules.specs.Sizes.{most_cells}
 use Rattle.rules.specs.Row.{Row}
 use Rattle.rules.specs.Steps.{Clump, Hand, empty, holding, Bench as Meant, finished_by, finished}
 use Rattle.rules.specs.Bench.{hand_byte, hand_clump, hand_edge, clumps_of}
 use Rattle.slopes.specs.Forgotten.{cells_in, all_clumps}
 use Rattle.slopes.specs.Apart.{proper_clumps}
+use Rattle.changes.specs.declared.Clump.{Clump as Held}
+use Rattle.changes.specs.Columns.{cells_of, edges_of}
 use Rattle.benches.specs.Saved.{none, Written}
+use Rattle.benches.specs.ColumnLaws.{cells_length, edges_length, cells_set, edges_set}
 use Rattle.engine.specs.declared.Bench.{Bench}
 use Rattle.engine.specs.Stands.{Listed, Numbers}
 use Rattle.slicing.specs.Begun.{Saves}
@@ -83,9 +86,27 @@ all_written b opened held clumps carried cells edges o h n c listed =
       edges_are = λ k l. rw (clumps_are b) (at k (omega arith)).1;
     }
 
-module _ (R : Row) (e : Bench) (cells edges : List ℕ) where
+-- and they are the first of a list that may be longer
+first_written : (b : Meant) (opened : ℕ) (held : Bool) (n carried : ℕ) (cs : List Held) → n ≤ length cs
+    → Written opened held n carried (cells_of cs) (edges_of cs) b
+    → Written opened held (length (take n cs)) carried (cells_of (take n cs)) (edges_of (take n cs)) b
+first_written b opened held n carried cs l w =
+    let count : length (take n cs) ≡ n = length-take-le n cs l in
+    record {
+      opened_is = w.opened_is;
+      hand_is = w.hand_is;
+      clumps_is = count ∙ w.clumps_is;
+      carried_is = w.carried_is;
+      cells_are = λ k h. let h' : k < n = omega arith in rw (← take-map (λ (c : Held). c.cells) n cs, get_or-take n (cells_of cs) k 0 h') (w.cells_are k h');
+      edges_are = λ k h. let h' : k < n = omega arith in rw (← take-map (λ (c : Held). c.edge) n cs, get_or-take n (edges_of cs) k 0 h') (w.edges_are k h');
+    }
+
+module _ (R : Row) (e : Bench) (clumps : List Held) where
+  abbrev Stood : Meant → Type 0
+  Stood b = Numbers R e (cells_of clumps) (edges_of clumps) b
+
   -- with a clump in hand its cells are the last that were opened
-  some_held : (b : Meant) → Numbers R e cells edges b → (c : Clump) → b.hand ≡ holding c → (e.first < e.opened) × (e.opened - e.first ≡ c.cells) × (c.edge ≡ 0)
+  some_held : (b : Meant) → Stood b → (c : Clump) → b.hand ≡ holding c → (e.first < e.opened) × (e.opened - e.first ≡ c.cells) × (c.edge ≡ 0)
   unfolding cells_in
   some_held b n c q =
       let all : cells_in (all_clumps (holding c) b.settled) ≡ b.opened = rw q at n.proper.all_cells in
@@ -96,77 +117,89 @@ module _ (R : Row) (e : Bench) (cells edges : List ℕ) where
         edge,
       )
 
-  none_held : (b : Meant) → Numbers R e cells edges b → b.hand ≡ empty → e.first ≡ e.opened
+  none_held : (b : Meant) → Stood b → b.hand ≡ empty → e.first ≡ e.opened
   none_held b n q =
       let all : cells_in (all_clumps empty b.settled) ≡ b.opened = rw q at n.proper.all_cells in
       omega (arith, n.first_is, n.opened_is)
 
   -- nothing in hand
-  without_hand : (b : Meant) → Numbers R e cells edges b → e.first ≡ e.opened → (hand : Hand) → b.hand ≡ hand
-      → (in_hand b.hand ≡ false) × (length (all_clumps b.hand b.settled) ≡ length b.settled) × Listed cells edges (all_clumps b.hand b.settled)
+  without_hand : (b : Meant) → Stood b → e.first ≡ e.opened → (hand : Hand) → b.hand ≡ hand
+      → (in_hand b.hand ≡ false) × (length (all_clumps b.hand b.settled) ≡ length b.settled)
+      × Listed (cells_of clumps) (edges_of clumps) (all_clumps b.hand b.settled)
   unfolding in_hand
   without_hand b n t empty q = rw q (refl, refl, n.listed)
   without_hand b n t (holding c) q = absurd (omega (arith, (some_held b n c q).0))
 
   -- a clump in hand, put after the settled ones at edge 0
-  with_hand_lem : (b : Meant) → Numbers R e cells edges b → (e.first ≡ e.opened → ⊥) → Saves R cells edges → (hand : Hand) → b.hand ≡ hand
+  with_hand_lem : (b : Meant) → Stood b → (e.first ≡ e.opened → ⊥) → Saves R clumps → (hand : Hand) → b.hand ≡ hand
       → (in_hand b.hand ≡ true) × (length (all_clumps b.hand b.settled) ≡ length b.settled + 1)
-      × Listed (set cells e.settled (e.opened - e.first)) (set edges e.settled 0) (all_clumps b.hand b.settled)
+      × Listed (set (cells_of clumps) e.settled (e.opened - e.first)) (set (edges_of clumps) e.settled 0) (all_clumps b.hand b.settled)
   unfolding in_hand
   with_hand_lem b n t v empty q = absurd (t (none_held b n q))
   with_hand_lem b n t v (holding c) q =
+      let cells = cells_of clumps in
+      let edges = edges_of clumps in
       let held = some_held b n c q in
       let place = n.settled_is in
       let count : length (all_clumps (holding c) b.settled) ≤ b.opened = rw q at (proper_clumps R b n.proper) in
+      let room : e.settled < length clumps = omega (arith, v.clumps_long, n.within) in
       rw q (
         refl,
         omega arith,
         (
-          rw (sym place) (get_or-set_same cells e.settled (e.opened - e.first) 0 (omega (arith, v.cells_long, n.within)) ∙ held.1),
-          rw (sym place) (get_or-set_same edges e.settled 0 0 (omega (arith, v.edges_long, n.within)) ∙ sym held.2),
+          rw (sym place) (get_or-set_same cells e.settled (e.opened - e.first) 0 (omega (arith, cells_length clumps)) ∙ held.1),
+          rw (sym place) (get_or-set_same edges e.settled 0 0 (omega (arith, edges_length clumps)) ∙ sym held.2),
           listed_past cells edges b.settled e.settled (e.opened - e.first) 0 (omega arith) n.listed,
         ),
       )
 
-  -- ---- the bench that is written
-
-  pub written_without : (b : Meant) → Numbers R e cells edges b → e.first ≡ e.opened → Written e.opened false e.settled e.carried.0 cells edges b
-  written_without b n t =
-      let w = without_hand b n t b.hand refl in
-      all_written b e.opened false e.settled e.carried.0 cells edges n.opened_is w.0 (n.settled_is ∙ sym w.1) n.carried_is w.2
-
-  pub written_with : (b : Meant) → Numbers R e cells edges b → (e.first ≡ e.opened → ⊥) → Saves R cells edges
-      → Written e.opened true (e.settled + 1) e.carried.0 (set cells e.settled (e.opened - e.first)) (set edges e.settled 0) b
-  written_with b n t v =
-      let w = with_hand_lem b n t v b.hand refl in
-      all_written b e.opened true (e.settled + 1) e.carried.0 _ _ n.opened_is w.0 (omega (arith, n.settled_is, w.1)) n.carried_is w.2
-
   -- what writing asks of the numbers
-  pub left_within : (b : Meant) → Numbers R e cells edges b → Saves R cells edges → (e.opened ≤ most_cells) × (e.settled ≤ length R.widths)
+  pub left_within : (b : Meant) → Stood b → Saves R clumps → (e.opened ≤ most_cells) × (e.settled ≤ length R.widths)
   left_within b n v = (
     omega (arith, n.opened_is, n.within, v.few),
     omega (arith, n.settled_is, n.within, proper_clumps R b n.proper, length-append (hand_clump b.hand) b.settled),
   )
 
-  hand_by : (b : Meant) → Numbers R e cells edges b → (e.first ≡ e.opened → ⊥) → (hand : Hand) → b.hand ≡ hand
+  hand_by : (b : Meant) → Stood b → (e.first ≡ e.opened → ⊥) → (hand : Hand) → b.hand ≡ hand
       → (e.settled < length R.widths) × (e.first ≤ e.opened)
   hand_by b n t empty q = absurd (t (none_held b n q))
   hand_by b n t (holding c) q =
       let count : length (all_clumps (holding c) b.settled) ≤ b.opened = rw q at (proper_clumps R b n.proper) in
       (omega (arith, n.settled_is, n.within), omega (arith, (some_held b n c q).0))
 
-  pub hand_within : (b : Meant) → Numbers R e cells edges b → (e.first ≡ e.opened → ⊥) → (e.settled < length R.widths) × (e.first ≤ e.opened)
+  pub hand_within : (b : Meant) → Stood b → (e.first ≡ e.opened → ⊥) → (e.settled < length R.widths) × (e.first ≤ e.opened)
   hand_within b n t = hand_by b n t b.hand refl
+
+  -- ---- the bench that is written
+
+  pub written_without : (b : Meant) → Stood b → e.first ≡ e.opened → Saves R clumps
+      → Written e.opened false (length (take e.settled clumps)) e.carried.0 (cells_of (take e.settled clumps)) (edges_of (take e.settled clumps)) b
+  written_without b n t v =
+      let w = without_hand b n t b.hand refl in
+      first_written b e.opened false e.settled e.carried.0 clumps (omega (arith, (left_within b n v).1, v.clumps_long))
+      (all_written b e.opened false e.settled e.carried.0 _ _ n.opened_is w.0 (n.settled_is ∙ sym w.1) n.carried_is w.2)
+
+  -- with the clump in hand put there
+  pub written_with : (b : Meant) → Stood b → (e.first ≡ e.opened → ⊥) → Saves R clumps → (c : Held) → c.cells ≡ e.opened - e.first → c.edge ≡ 0
+      → (cs : List Held) → cs ≡ set clumps e.settled c
+      → Written e.opened true (length (take (e.settled + 1) cs)) e.carried.0 (cells_of (take (e.settled + 1) cs)) (edges_of (take (e.settled + 1) cs)) b
+  written_with b n t v c cells edge cs put =
+      let w = with_hand_lem b n t v b.hand refl in
+      let listed : Listed (cells_of (set clumps e.settled c)) (edges_of (set clumps e.settled c)) (all_clumps b.hand b.settled) =
+      rw (cells_set clumps e.settled c, edges_set clumps e.settled c, cells, edge) w.2 in
+      rw put
+      (first_written b e.opened true (e.settled + 1) e.carried.0 (set clumps e.settled c) (omega (arith, length-set clumps e.settled c, (hand_within b n t).0, v.clumps_long))
+      (all_written b e.opened true (e.settled + 1) e.carried.0 _ _ n.opened_is w.0 (omega (arith, n.settled_is, w.1)) n.carried_is listed))
 
   -- ---- whether all is done
 
-  finished_by_lem : (b : Meant) → Numbers R e cells edges b → (hand : Hand) → b.hand ≡ hand
+  finished_by_lem : (b : Meant) → Stood b → (hand : Hand) → b.hand ≡ hand
       → eqb e.first e.opened && leb (length R.widths) e.opened ≡ finished_by R b.opened hand
   unfolding finished_by
   finished_by_lem b n empty q = rw (eq-eqb e.first e.opened (none_held b n q), n.opened_is) refl
   finished_by_lem b n (holding c) q = rw (ne_eqb e.first e.opened (λ z. omega (arith, (some_held b n c q).0))) refl
 
-  pub finished_is : (count : ℕ) (b : Meant) → count ≡ length R.widths → Numbers R e cells edges b
+  pub finished_is : (count : ℕ) (b : Meant) → count ≡ length R.widths → Stood b
       → eqb e.first e.opened && leb count e.opened ≡ finished R b
   unfolding finished
   finished_is count b m n = rw m (finished_by_lem b n b.hand refl)

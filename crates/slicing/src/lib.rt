@@ -61,8 +61,9 @@ fn save(left: Bench, clumps: &mut [Clump], bench: &mut [u8])
     let held = left.first != left.opened;
     let settled = left.settled;
     if held {
-        clumps[settled].cells = (left.opened - left.first) as u16;
-        clumps[settled].edge = 0;
+        let clump = &mut clumps[settled];
+        clump.cells = (left.opened - left.first) as u16;
+        clump.edge = 0;
     }
     store(
         bench,

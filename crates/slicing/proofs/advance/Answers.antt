@@ -1,11 +1,13 @@
 -- `advance`: the numbers that are made stand for the bench that the saved bytes stand for, and so what is written is the bench that the run leaves.
-use Rattle.std.proofs.Common.{◌≤◌, ◌≡◌, ℕ, List, length, arith, refl, sym, subst, ◌∙◌}
+use Rattle.std.proofs.Common.{◌≤◌, ◌≡◌, List, ℕ, length, arith, sym, subst, ◌∙◌}
 use Rattle.rules.specs.Row.{Row}
 use Rattle.rules.specs.Steps.{Bench as Meant, run, steps_taken}
 use Rattle.rules.specs.Bench.{bench_of}
+use Rattle.changes.specs.Columns.{cells_of, edges_of}
+use Rattle.benches.specs.ColumnLaws.{cells_length, starts_length}
 use Rattle.benches.specs.declared.Saved.{Saved}
 use Rattle.engine.specs.declared.Bench.{Bench}
-use Rattle.engine.specs.Laid.{Layout, layout_of}
+use Rattle.engine.specs.Laid.{Layout, seen}
 use Rattle.engine.specs.Stands.{Lists, lists_of, Numbers}
 use Rattle.slicing.specs.Begun.{begun, Begins, Saves}
 use Rattle.slicing.specs.BegunLaws.{begun_numbers, begun_asks}
@@ -13,40 +15,37 @@ use Rattle.slicing.specs.WrittenLaws.{finished_is}
 use Rattle.slicing.proofs.advance.Goals.{After-resume-ran}
 use Rattle.slicing.proofs.advance.Goals as goal
 
-begun_stands : (R : Row) (e : Bench) (s : List ℕ) (saved : Saved) (width count : ℕ) (y : Layout) (ls : Lists)
-    → e ≡ begun saved.opened saved.held saved.clumps saved.carried ls.cells → Begins R s saved width count y ls
-    → Numbers R e ls.cells ls.edges (bench_of R s)
-begun_stands R e s saved width count y ls is t =
+begun_stands : (R : Row) (e : Bench) (s : List ℕ) (saved : Saved) (width : ℕ) (y : Layout) (ls : Lists)
+    → e ≡ begun saved ls.cells → Begins R s saved width y ls → Numbers R e ls.cells ls.edges (bench_of R s)
+begun_stands R e s saved width y ls is t =
     subst (λ (k : Bench). Numbers R k ls.cells ls.edges (bench_of R s)) (sym is)
     (begun_numbers R s ls.cells ls.edges saved t.form t.tells t.laid.few_cells)
 
 -- what is asked, of any row, and what the run leaves
 module _ (c : After-resume-ran) (R : Row) where
   abbrev Asked : Type 0
-  Asked =
-      let a = c.args in
-      Begins R a.bench.now a.saved a.width a.count (layout_of a.starts.now a.bounds.now a.needs.now a.at.now a.slope.now)
-      (lists_of a.cells.now a.edges.now a.sizes.now a.sums.now a.keys.now)
+  Asked = let a = c.args in Begins R a.bench.now a.saved a.row.width (seen a.row) (lists_of a.clumps.now a.keys.now)
 
   abbrev left : Meant
   left = run R c.args.budget (bench_of R c.args.bench.now)
 
   left_stands : Asked
-      → Numbers R c.resume-ran.result.bench c.resume-ran.new.cells c.resume-ran.new.edges left
+      → Numbers R c.resume-ran.result.bench (cells_of c.resume-ran.new.clumps) (edges_of c.resume-ran.new.clumps) left
       × (c.resume-ran.result.steps.0 ≡ steps_taken R c.args.budget (bench_of R c.args.bench.now))
-      × (length R.widths ≤ length c.resume-ran.new.cells) × (length R.widths ≤ length c.resume-ran.new.edges)
+      × (length R.widths ≤ length c.resume-ran.new.clumps)
   left_stands t =
-      c.resume-ran.ensures R (bench_of R c.args.bench.now) t.wide t.many t.laid
-      (begun_stands R c.begin-from.result c.args.bench.now c.args.saved c.args.width c.args.count _ _ c.begin-from.ensures t) t.roomy
+      c.resume-ran.ensures R (bench_of R c.args.bench.now) t.wide t.laid
+      (begun_stands R c.begin-from.result c.args.bench.now c.args.saved c.args.row.width _ _ c.begin-from.ensures t) t.roomy
 
-  saves : Asked → Saves R c.resume-ran.new.cells c.resume-ran.new.edges
-  saves t = let l = left_stands t in record { few = t.laid.few_cells; cells_long = l.2; edges_long = l.3 }
+  saves : Asked → Saves R c.resume-ran.new.clumps
+  saves t = record { few = t.laid.few_cells; clumps_long = (left_stands t).2 }
 
 pub begin-from-requires : goal.begin-from-requires
 begin-from-requires c =
     let t = c.requires.1.1 in
-    let q = begun_asks c.requires.1.0 c.args.bench.now c.args.cells.now c.args.edges.now c.args.saved t.form t.tells t.laid.few_cells in
-    (omega (arith, q.0, t.roomy.cells_long), q.1, q.2)
+    let clumps = c.args.clumps.now in
+    let q = begun_asks c.requires.1.0 c.args.bench.now (cells_of clumps) (edges_of clumps) c.args.saved t.form t.tells t.laid.few_cells in
+    (omega (arith, q.0, t.roomy.cells_long, cells_length clumps), q.1, q.2)
 
 pub resume-ran-requires : goal.resume-ran-requires
 resume-ran-requires c =
@@ -56,9 +55,8 @@ resume-ran-requires c =
       row = R;
       bench = bench_of R c.args.bench.now;
       width_is = t.wide;
-      count_is = t.many;
       laid = t.laid;
-      numbers = begun_stands R c.begin-from.result c.args.bench.now c.args.saved c.args.width c.args.count _ _ c.begin-from.ensures t;
+      numbers = begun_stands R c.begin-from.result c.args.bench.now c.args.saved c.args.row.width _ _ c.begin-from.ensures t;
       roomy = t.roomy;
     }
 
@@ -69,15 +67,13 @@ save-requires c =
     let t = c.requires.1.1 in
     (c.requires.0, (R, (left d R, ((left_stands d R t).0, saves d R t))))
 
-pub returns-clause-formed_value : goal.returns-clause-formed_value
-returns-clause-formed_value c = (
-  refl,
-  λ R t.
-      let d = (goal.at.returns-clause-formed_value c).After-resume-ran in
-      let l = left_stands d R t in
-      record {
-        steps = l.1;
-        ends = c.finished-finished.ensures ∙ finished_is R c.resume-ran.result.bench _ _ c.args.count (left d R) t.many l.0;
-        bytes = c.save.ensures R (left d R) l.0 (saves d R t);
-      },
-)
+pub returns : goal.returns
+returns c R t =
+    let d = (goal.at.returns c).After-resume-ran in
+    let l = left_stands d R t in
+    let count : c.cells.result ≡ length R.widths = omega (arith, t.laid.starts_long, starts_length c.args.row.places.now, c.cells.ensures) in
+    record {
+      steps = l.1;
+      ends = c.finished.ensures ∙ finished_is R c.resume-ran.result.bench c.resume-ran.new.clumps c.cells.result (left d R) count l.0;
+      bytes = c.save.ensures R (left d R) l.0 (saves d R t);
+    }

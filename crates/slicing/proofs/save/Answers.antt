@@ -1,58 +1,63 @@
--- `save`: the numbers and the lists are those of the bench that is written; a clump in hand is put after the settled ones first.
-use Rattle.std.proofs.Common.{◌≤◌, ◌<◌, ◌-◌, ◌≡◌, List, ℕ, length, length-set, arith}
-use Rattle.rules.specs.Sizes.{most_cells}
+-- `save`: the numbers and the list are those of the bench that is written; a clump in hand is put after the settled ones first.
+use Rattle.std.proofs.Common.{◌≤◌, ◌+◌, ◌≡◌, ℕ, List, length, take, add-zero, arith, refl, sym, ◌∙◌, ne_eqb, eq-eqb}
+use Rattle.std.proofs.lemmas.List.{length-take-le}
 use Rattle.rules.specs.Row.{Row}
-use Rattle.rules.specs.Steps.{Bench as Meant}
-use Rattle.engine.specs.declared.Bench.{Bench}
-use Rattle.engine.specs.Stands.{Numbers}
-use Rattle.slicing.specs.Begun.{Saves}
 use Rattle.slicing.specs.WrittenLaws.{written_without, written_with, left_within, hand_within}
+use Rattle.slicing.proofs.save.Goals.{After-from, then-held, else-held}
 use Rattle.slicing.proofs.save.Goals as goal
 
--- with a clump in hand there is room for it after the settled ones
-module _ (R : Row) (e : Bench) (cells edges : List ℕ) (b : Meant) (n : Numbers R e cells edges b) (v : Saves R cells edges) where
-  opened_few : e.opened ≤ most_cells
-  opened_few = (left_within R e cells edges b n v).0
+pub bounds-clumps-settled : goal.bounds-clumps-settled
+bounds-clumps-settled c =
+    let r = c.requires.1 in
+    omega (arith, hand_within r.0 c.args.left c.args.clumps.now r.1.0 r.1.1.0 c.if-held.true, r.1.1.1.clumps_long)
 
-  room : (e.first ≡ e.opened → ⊥) → (e.settled < most_cells) × (e.settled < length cells) × (e.settled < length edges)
-  room held =
-      let h = (hand_within R e cells edges b n held).0 in
-      (omega (arith, h, v.few), omega (arith, h, v.cells_long), omega (arith, h, v.edges_long))
+pub overflow_sub-clump : goal.overflow_sub-clump
+overflow_sub-clump c = let r = c.requires.1 in (hand_within r.0 c.args.left c.args.clumps.now r.1.0 r.1.1.0 c.if-held.true).1
+
+module _ (c : After-from) where
+  one_more : (c.args.left.first ≡ c.args.left.opened → ⊥) → c.from.result ≡ 1
+  one_more held = c.from.ensures ∙ rw (ne_eqb c.args.left.first c.args.left.opened held) refl
+
+  none_more : c.args.left.first ≡ c.args.left.opened → c.from.result ≡ 0
+  none_more none = c.from.ensures ∙ rw (eq-eqb c.args.left.first c.args.left.opened none) refl
+
+  -- there is a cell for each clump that is written
+  within : c.args.left.settled + c.from.result ≤ length c.requires.1.0.widths
+  within =
+      let r = c.requires.1 in
+      elim c.if-held.branch [
+        | then-held w ↦ omega (arith, one_more w.if-held.true, hand_within r.0 c.args.left c.args.clumps.now r.1.0 r.1.1.0 w.if-held.true)
+        | else-held w ↦ omega (arith, none_more w.if-held.false, left_within r.0 c.args.left c.args.clumps.now r.1.0 r.1.1.0 r.1.1.1)
+      ]
+
+  count : length (take (c.args.left.settled + c.from.result) c.if-held.clumps) ≡ c.args.left.settled + c.from.result
+  count = length-take-le (c.args.left.settled + c.from.result) c.if-held.clumps (omega (arith, within, c.requires.1.1.1.1.clumps_long))
+
+pub slice_bounds-store-end : goal.slice_bounds-store-end
+slice_bounds-store-end c =
+    let d = (goal.at.slice_bounds-store-end c).After-from in omega (arith, within d, c.requires.1.1.1.1.clumps_long)
+
+pub slice_bounds-store-end-2 : goal.slice_bounds-store-end-2
+slice_bounds-store-end-2 c = sym (count (goal.at.slice_bounds-store-end-2 c).After-from)
 
 pub store-requires : goal.store-requires
 store-requires c =
+    let d = (goal.at.store-requires c).After-from in
     let r = c.requires.1 in
-    let w = left_within r.0 c.args.left c.args.cells.now c.args.edges.now r.1.0 r.1.1.0 r.1.1.1 in
     let v = r.1.1.1 in
-    record {
-      bench_len = (c.requires.0, (w.0, omega (arith, w.1, v.few)));
-      clumps_in_bounds = (omega (arith, w.1, v.cells_long), omega (arith, w.1, v.edges_long));
-    }
-
-pub returns-then-left : goal.returns-then-left
-returns-then-left c R m n saves = c.store.ensures m (written_without R c.args.left c.args.cells.now c.args.edges.now m n c.if-left.true)
-
-pub overflow_sub-count : goal.overflow_sub-count
-overflow_sub-count c = let r = c.requires.1 in (hand_within r.0 c.args.left c.args.cells.now c.args.edges.now r.1.0 r.1.1.0 c.if-left.false).1
-
-pub bounds-cells-settled : goal.bounds-cells-settled
-bounds-cells-settled c = let r = c.requires.1 in (room r.0 c.args.left c.args.cells.now c.args.edges.now r.1.0 r.1.1.0 r.1.1.1 c.if-left.false).1
-
-pub bounds-edges-settled : goal.bounds-edges-settled
-bounds-edges-settled c = let r = c.requires.1 in (room r.0 c.args.left c.args.cells.now c.args.edges.now r.1.0 r.1.1.0 r.1.1.1 c.if-left.false).2
-
-pub store-requires-2 : goal.store-requires-2
-store-requires-2 c =
-    let r = c.requires.1 in
-    let e = c.args.left in
-    let h = room r.0 e c.args.cells.now c.args.edges.now r.1.0 r.1.1.0 r.1.1.1 c.if-left.false in
-    record {
-      bench_len = (c.requires.0, (opened_few r.0 e c.args.cells.now c.args.edges.now r.1.0 r.1.1.0 r.1.1.1, omega (arith, h.0)));
-      clumps_in_bounds = (
-        omega (arith, h.1, length-set c.args.cells.now e.settled (e.opened - e.first)),
-        omega (arith, h.2, length-set c.args.edges.now e.settled 0),
-      );
-    }
+    (c.requires.0, ((left_within r.0 c.args.left c.args.clumps.now r.1.0 r.1.1.0 v).0, omega (arith, within d, count d, v.few)))
 
 pub returns : goal.returns
-returns c R m n saves = c.store-2.ensures m (written_with R c.args.left c.args.cells.now c.args.edges.now m n c.if-left.false saves)
+returns c R m n v =
+    let d = (goal.at.returns c).After-from in
+    let e = c.args.left in
+    let clumps = c.args.clumps.now in
+    c.store.ensures m
+    (elim c.if-held.branch [
+      | then-held w ↦
+          rw (ne_eqb e.first e.opened w.if-held.true, one_more d w.if-held.true)
+          (written_with R e clumps m n w.if-held.true v _ refl refl c.if-held.clumps w.clumps-is)
+      | else-held w ↦
+          rw (eq-eqb e.first e.opened w.if-held.false, none_more d w.if-held.false, w.clumps-is, add-zero)
+          (written_without R e clumps m n w.if-held.false v)
+    ])
