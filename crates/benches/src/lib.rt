@@ -3,7 +3,7 @@
 #![tactic(auto)]
 
 ghost use Rattle.std.specs.Prelude.{◌≡◌, ◌++◌, cond, ◌-◌, ◌*◌, ◌+◌, ◌≤◌, ◌<◌, length, drop, replicate};
-ghost use Rattle.rules.specs.Sizes.{most_cells, part_size, bench_size};
+ghost use Rattle.rules.specs.Sizes.{most_cells, part_size};
 ghost use Rattle.rules.specs.Row.{Row};
 ghost use Rattle.rules.specs.Steps.{Bench};
 ghost use Rattle.rules.specs.Bench.{all_zero, bench_bytes, fresh};
@@ -14,7 +14,7 @@ ghost use Rattle.benches.specs.Saved.{head_of, settled_of, Parted, Told, Loaded,
 
 use changes::Clump;
 use layout::Place;
-use rules::Carried;
+use rules::{BENCH_SIZE, Carried};
 
 // What saved bytes in form say: how many cells are opened, whether a clump is in hand, how many clumps there are, and the changes carried. The cells and
 // left edge of each clump, the one in hand last, go to a lent list.
@@ -28,8 +28,7 @@ pub struct Saved {
 
 impl Saved {
     // The numbers of the head.
-    fn read(bench: &[u8]) -> Self
-        requires { length bench.now ≡ bench_size }
+    fn read(bench: &[u8; BENCH_SIZE]) -> Self
         ensures { result ≡ head_of bench.now }
     {
         Saved {
@@ -50,8 +49,7 @@ impl Saved {
 }
 
 // The two bytes that a bench begins with.
-fn has_mark(bench: &[u8]) -> bool
-    requires { length bench.now ≡ bench_size }
+fn has_mark(bench: &[u8; BENCH_SIZE]) -> bool
     ensures { result ≡ has_mark bench.now }
 {
     bench[0] == b'B' && bench[1] == b'N'
@@ -70,8 +68,7 @@ fn counts_fit(count: usize, opened: usize, hand: u8, clumps: usize, carried: u32
 }
 
 #[tactic(auto, unfolding(crate::specs::Fits::head_fits))]
-fn head_fits(bench: &[u8], count: usize) -> bool
-    requires { length bench.now ≡ bench_size }
+fn head_fits(bench: &[u8; BENCH_SIZE], count: usize) -> bool
     ensures { result ≡ head_fits count bench.now }
 {
     has_mark(bench)
@@ -85,7 +82,7 @@ fn head_fits(bench: &[u8], count: usize) -> bool
 }
 
 // Are all bytes from a place on 0? The largest of them tells, without a test at each.
-fn zero_from(bench: &[u8], from: usize) -> bool
+fn zero_from(bench: &[u8; BENCH_SIZE], from: usize) -> bool
     requires { from ≤ length bench.now }
     ensures { result ≡ all_zero (drop from bench.now) }
 {
@@ -118,8 +115,13 @@ fn edge_fits(settled: bool, edge: u32, after: bool, within: bool) -> bool
 }
 
 // The clumps, one after the other: in form where all fit and their cells add to those opened.
-fn parts_fit(head: Saved, bench: &[u8], width: u32, places: &[Place], clumps: &mut [Clump]) -> bool
-    requires bench_len { length bench.now ≡ bench_size }
+fn parts_fit(
+    head: Saved,
+    bench: &[u8; BENCH_SIZE],
+    width: u32,
+    places: &[Place],
+    clumps: &mut [Clump],
+) -> bool
     requires clumps_le_most_cells { (head.clumps ≤ most_cells) × (cond head.held 1 0 ≤ head.clumps) }
     requires opened_le_most_cells { (head.opened ≤ most_cells) × (head.opened + 1 ≤ length places.now) × (head.opened ≤ length clumps.old) }
     ensures parted { Parted head bench.now width (starts_of places.now) (cells_of clumps.new) (edges_of clumps.new) result }
@@ -154,8 +156,12 @@ fn parts_fit(head: Saved, bench: &[u8], width: u32, places: &[Place], clumps: &m
 }
 
 // The bench that saved bytes say, where they are in form, for a row of this width with a place for each cell and one past the last.
-pub fn load(bench: &[u8], width: u32, places: &[Place], clumps: &mut [Clump]) -> Option<Saved>
-    requires bench_len { length bench.now ≡ bench_size }
+pub fn load(
+    bench: &[u8; BENCH_SIZE],
+    width: u32,
+    places: &[Place],
+    clumps: &mut [Clump],
+) -> Option<Saved>
     requires places_in_bounds { (1 ≤ length places.now) × (length places.now ≤ most_cells + 1) × (length places.now ≤ length clumps.old + 1) }
     ensures loaded { (R : Row) → Told R width (starts_of places.now) → Loaded R bench.now (cells_of clumps.new) (edges_of clumps.new) result }
     ensures clumps_len_unchanged { length clumps.new ≡ length clumps.old }
@@ -171,8 +177,14 @@ pub fn load(bench: &[u8], width: u32, places: &[Place], clumps: &mut [Clump]) ->
 }
 
 // The mark and the numbers of a bench, and every byte after them 0.
-fn store_head(bench: &mut [u8], opened: usize, held: bool, clumps: usize, carried: Carried)
-    requires { (length bench.old ≡ bench_size) × ((opened ≤ most_cells) × (clumps ≤ most_cells)) }
+fn store_head(
+    bench: &mut [u8; BENCH_SIZE],
+    opened: usize,
+    held: bool,
+    clumps: usize,
+    carried: Carried,
+)
+    requires { (opened ≤ most_cells) × (clumps ≤ most_cells) }
     ensures { bench.new ≡ head_bytes opened (cond held 1 0) clumps carried.0 ++ replicate (part_size * most_cells) 0 }
 {
     bench.fill(0);
@@ -185,8 +197,14 @@ fn store_head(bench: &mut [u8], opened: usize, held: bool, clumps: usize, carrie
 }
 
 // A bench as bytes: its head, then the cells and left edge of each clump.
-pub fn store(bench: &mut [u8], opened: usize, held: bool, carried: Carried, clumps: &[Clump])
-    requires { (length bench.old ≡ bench_size) × ((opened ≤ most_cells) × (length clumps.now ≤ most_cells)) }
+pub fn store(
+    bench: &mut [u8; BENCH_SIZE],
+    opened: usize,
+    held: bool,
+    carried: Carried,
+    clumps: &[Clump],
+)
+    requires { (opened ≤ most_cells) × (length clumps.now ≤ most_cells) }
     ensures { (b : Bench) → Written opened held (length clumps.now) carried.0 (cells_of clumps.now) (edges_of clumps.now) b → bench.new ≡ bench_bytes b }
 {
     store_head(bench, opened, held, clumps.len(), carried);
@@ -198,8 +216,7 @@ pub fn store(bench: &mut [u8], opened: usize, held: bool, carried: Carried, clum
 }
 
 // A fresh bench: every number 0.
-pub fn store_fresh(bench: &mut [u8])
-    requires { length bench.old ≡ bench_size }
+pub fn store_fresh(bench: &mut [u8; BENCH_SIZE])
     ensures { bench.new ≡ bench_bytes fresh }
 {
     store_head(bench, 0, false, 0, Carried(0));

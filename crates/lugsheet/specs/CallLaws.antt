@@ -31,6 +31,10 @@ use Rattle.lugsheet.specs.Answers.{answered}
 pub told_by : {answer : ℕ} {buffer : List ℕ} {o : Outcome} → o ≡ record { answer = answer; buffer = buffer } → (answer ≡ o.answer) × (buffer ≡ o.buffer)
 told_by e = (sym (ap (λ (o : Outcome). o.answer) e), sym (ap (λ (o : Outcome). o.buffer) e))
 
+-- a row that was read is one that is held
+pub held_row : (row : List ℕ) (h : Sheet) → Reads (read_row row) (Ok h) → (R : Row) × Holds h.width h.widths.now h.nets.now R
+held_row row h r = let t = reads_ok (read_row row) h r in (t.0, t.1.1)
+
 -- ---- check
 
 pub check_err : (row : List ℕ) (f : Refused) → Reads (read_row row) (Err f) → answered (Err f) ≡ (check_call row).answer

@@ -1,12 +1,11 @@
 -- The lists that a call lends to a slice: fresh ones are as they should be, and lists for many cells and nets do for fewer.
-use Rattle.std.specs.Prelude.{ℕ, ◌+◌, ◌*◌, ◌≤◌, ◌≡◌, List, map, length, replicate, get_or}
-use Rattle.std.proofs.Common.{arith, ◌∙◌, refl}
+use Rattle.std.specs.Prelude.{ℕ, ◌+◌, ◌*◌, ◌≤◌, ◌≡◌, map, length, replicate}
+use Rattle.std.proofs.Common.{arith, ◌∙◌}
 use Rattle.std.proofs.lemmas.List.{length-replicate, length-map, get_or-map, get_or-replicate}
 use Rattle.rules.specs.declared.Change.{Change}
 use Rattle.nets.specs.declared.Net.{Net}
 use Rattle.changes.specs.declared.Clump.{Clump}
 use Rattle.layout.specs.declared.Place.{Place}
-use Rattle.layout.specs.Columns.{bounds_of, needs_of}
 use Rattle.layout.specs.Shared.{Blank}
 use Rattle.slicing.specs.Begun.{Lent}
 

@@ -126,9 +126,9 @@ pub fn lugsheet_fresh(bench: &mut [u8]) -> u64
     ensures answer { result ≡ (fresh_call bench.old).answer }
     ensures buffer { bench.new ≡ (fresh_call bench.old).buffer }
 {
-    if bench.len() != BENCH_SIZE {
+    let Some(bench) = bench.as_mut_array::<BENCH_SIZE>() else {
         return answer_of(unmet(Refusal::Room));
-    }
+    };
     benches::store_fresh(bench);
     0
 }
@@ -154,9 +154,9 @@ fn slice<const CELLS: usize, const NETS: usize, const ENDS: usize, const CHANGES
     let mut widths = [0; CELLS];
     let mut nets = [Net::default(); NETS];
     let sheet = read_row(row, &mut widths, &mut nets)?;
-    if bench.len() != BENCH_SIZE {
+    let Some(bench) = bench.as_mut_array::<BENCH_SIZE>() else {
         return unmet(Refusal::Room);
-    }
+    };
     let mut places = [Place::default(); ENDS];
     let mut changes = [Change::default(); CHANGES];
     let mut clumps = [Clump::default(); CELLS];
@@ -201,9 +201,9 @@ fn placement_of<const CELLS: usize, const NETS: usize, const ENDS: usize>(
     let mut widths = [0; CELLS];
     let mut nets = [Net::default(); NETS];
     let sheet = read_row(row, &mut widths, &mut nets)?;
-    if bench.len() != BENCH_SIZE {
+    let Some(bench) = bench.as_array::<BENCH_SIZE>() else {
         return unmet(Refusal::Room);
-    }
+    };
     if placement.len() != 4 * sheet.widths.len() {
         return unmet(Refusal::Room);
     }

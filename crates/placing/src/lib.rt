@@ -3,7 +3,6 @@
 #![tactic(auto)]
 
 ghost use Rattle.std.specs.Prelude.{◌≡◌, not, ◌&&◌, List, ℕ, ◌+◌, ◌-◌, ◌*◌, ◌≤◌, leb, length, drop};
-ghost use Rattle.rules.specs.Sizes.{bench_size};
 ghost use Rattle.rules.specs.Row.{Row};
 ghost use Rattle.rules.specs.Bench.{bench_of};
 ghost use Rattle.rules.specs.Calls.{packed, positions, site_bytes};
@@ -16,7 +15,7 @@ ghost use Rattle.placing.specs.PlacedAs.{PlacedAs};
 use changes::Clump;
 use layout::Place;
 use reading::Sheet;
-use rules::Refusal;
+use rules::{BENCH_SIZE, Refusal};
 
 // Nothing in hand, all cells opened.
 fn is_finished(held: bool, opened: usize, cells: usize) -> bool
@@ -53,12 +52,12 @@ fn put_clumps(clumps: &[Clump], widths: &[u32], placement: &mut [u8])
 // The positions that a bench gives, for a row that was read, or why there are none. Two lists are lent to work in.
 pub fn place(
     sheet: Sheet<'_>,
-    bench: &[u8],
+    bench: &[u8; BENCH_SIZE],
     placement: &mut [u8],
     places: &mut [Place],
     clumps: &mut [Clump],
 ) -> Result<u64, Refusal>
-    requires bench_len { (length bench.now ≡ bench_size) × (length sheet.widths.now + 1 ≤ length places.old) × (length sheet.widths.now ≤ length clumps.old) × (length placement.old ≡ 4 * length sheet.widths.now) }
+    requires lent { (length sheet.widths.now + 1 ≤ length places.old) × (length sheet.widths.now ≤ length clumps.old) × (length placement.old ≡ 4 * length sheet.widths.now) }
     requires holds { (R : Row) × Holds sheet.width sheet.widths.now sheet.nets.now R }
     ensures { (R : Row) → Holds sheet.entry.width sheet.entry.widths.now sheet.entry.nets.now R → PlacedAs R bench.now placement.old placement.new result }
 {

@@ -3,7 +3,6 @@
 #![tactic(auto)]
 
 ghost use Rattle.std.specs.Prelude.{◌≡◌, ◌+◌, ◌*◌, ◌≤◌, cond, length, get_or, ◌-◌};
-ghost use Rattle.rules.specs.Sizes.{bench_size};
 ghost use Rattle.rules.specs.Row.{Row};
 ghost use Rattle.rules.specs.Steps.{Bench as Meant};
 ghost use Rattle.rules.specs.Bench.{bench_bytes};
@@ -19,7 +18,7 @@ use changes::{Clump, Kept};
 use engine::{Bench, resume};
 use layout::{Layout, Place, lay_out, lay_starts};
 use reading::Sheet;
-use rules::{Change, Refusal, Steps};
+use rules::{BENCH_SIZE, Change, Refusal, Steps};
 
 // What a slice answers: how many steps it took and whether all is done.
 #[derive(Clone, Copy)]
@@ -54,8 +53,8 @@ fn begin(saved: Saved, clumps: &[Clump]) -> Bench
 }
 
 // The work as it was left, as bytes: the clump in hand, if there is one, goes after the settled ones, at edge 0.
-fn save(left: Bench, clumps: &mut [Clump], bench: &mut [u8])
-    requires { (length bench.old ≡ bench_size) × ((R : Row) × ((b : Meant) × (Numbers R left (cells_of clumps.old) (edges_of clumps.old) b × Saves R clumps.old))) }
+fn save(left: Bench, clumps: &mut [Clump], bench: &mut [u8; BENCH_SIZE])
+    requires { (R : Row) × ((b : Meant) × (Numbers R left (cells_of clumps.old) (edges_of clumps.old) b × Saves R clumps.old)) }
     ensures { (R : Row) (b : Meant) → Numbers R left (cells_of clumps.old) (edges_of clumps.old) b → Saves R clumps.old → bench.new ≡ bench_bytes b }
 {
     let held = left.first != left.opened;
@@ -81,9 +80,9 @@ fn advance(
     row: Layout<'_>,
     clumps: &mut [Clump],
     keys: &mut [u32],
-    bench: &mut [u8],
+    bench: &mut [u8; BENCH_SIZE],
 ) -> Sliced
-    requires { (length bench.old ≡ bench_size) × ((R : Row) × Begins R bench.old saved row.width (seen row) (lists_of clumps.old keys.old)) }
+    requires { (R : Row) × Begins R bench.old saved row.width (seen row) (lists_of clumps.old keys.old) }
     ensures { (R : Row) → Begins R bench.old saved row.entry.width (seen row.entry) (lists_of clumps.old keys.old) → Advanced R budget bench.old bench.new result }
 {
     let from = begin(saved, clumps);
@@ -99,14 +98,14 @@ fn advance(
 // Of a row that was read. The other lists are lent to work in: of `places` every number is 0.
 pub fn slice(
     sheet: Sheet<'_>,
-    bench: &mut [u8],
+    bench: &mut [u8; BENCH_SIZE],
     budget: u32,
     places: &mut [Place],
     changes: &mut [Change],
     clumps: &mut [Clump],
     keys: &mut [u32],
 ) -> Result<Sliced, Refusal>
-    requires bench_len { (length bench.old ≡ bench_size) × ((R : Row) × Holds sheet.width sheet.widths.now sheet.nets.now R) }
+    requires holds { (R : Row) × Holds sheet.width sheet.widths.now sheet.nets.now R }
     requires lent { Lent (length sheet.widths.now) (length sheet.nets.now) places.old changes.old clumps.old keys.old }
     ensures { (R : Row) → Holds sheet.entry.width sheet.entry.widths.now sheet.entry.nets.now R → SlicedAs R budget bench.old bench.new result }
 {

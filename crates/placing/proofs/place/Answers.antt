@@ -16,7 +16,7 @@ use Rattle.placing.proofs.place.Goals as goal
 -- past the first test the bench is in form, and the second asks whether it is finished
 module _ (c : After-is_finished) (R : Row) (held : Holds c.args.sheet.width c.args.sheet.widths.now c.args.sheet.nets.now R) where
   many : length (starts_of c.lay_starts.new.places) ≡ length c.args.sheet.widths.now + 1
-  many = starts_length c.lay_starts.new.places ∙ c.lay_starts.ensures.starts.1 ∙ length-take-le _ c.args.places.now c.requires.bench_len.1
+  many = starts_length c.lay_starts.new.places ∙ c.lay_starts.ensures.starts.1 ∙ length-take-le _ c.args.places.now c.requires.lent.0
 
   -- the bench, told for the row
   loaded : (in_form R c.args.bench.now ≡ true) × Tells c.args.bench.now (cells_of c.load.new.clumps) (edges_of c.load.new.clumps) c.in-Some.saved
@@ -27,7 +27,7 @@ module _ (c : After-is_finished) (R : Row) (held : Holds c.args.sheet.width c.ar
 
   -- its clumps lie in the list lent for them
   in_list : length c.args.sheet.widths.now ≤ length c.load.new.clumps
-  in_list = omega (arith, c.load.ensures.clumps_len_unchanged, c.requires.bench_len)
+  in_list = omega (arith, c.load.ensures.clumps_len_unchanged, c.requires.lent)
 
   fit : c.in-Some.saved.clumps ≤ length c.load.new.clumps
   fit = clumps_fit _ _ _ R held _ _ _ loaded.0 loaded.1 in_list
@@ -40,7 +40,7 @@ module _ (c : After-is_finished) (R : Row) (held : Holds c.args.sheet.width c.ar
     is_ready :
         Ready R c.args.bench.now (cells_of (take c.in-Some.saved.clumps c.load.new.clumps))
         (edges_of (take c.in-Some.saved.clumps c.load.new.clumps)) c.args.sheet.widths.now c.args.placement.now
-    is_ready = ready _ _ _ R held _ _ _ loaded.0 loaded.1 c.args.placement.now (omega (arith, c.requires.bench_len)) in_list ends
+    is_ready = ready _ _ _ R held _ _ _ loaded.0 loaded.1 c.args.placement.now (omega (arith, c.requires.lent)) in_list ends
 
 pub returns-then-not-is_finished : goal.returns-then-not-is_finished
 returns-then-not-is_finished c R held =

@@ -42,15 +42,15 @@ module _ (c : After-resume-ran) (R : Row) where
 
 pub begin-from-requires : goal.begin-from-requires
 begin-from-requires c =
-    let t = c.requires.1.1 in
+    let t = c.requires.1 in
     let clumps = c.args.clumps.now in
-    let q = begun_asks c.requires.1.0 c.args.bench.now (cells_of clumps) (edges_of clumps) c.args.saved t.form t.tells t.laid.few_cells in
+    let q = begun_asks c.requires.0 c.args.bench.now (cells_of clumps) (edges_of clumps) c.args.saved t.form t.tells t.laid.few_cells in
     (omega (arith, q.0, t.roomy.cells_long, cells_length clumps), q.1, q.2)
 
 pub resume-ran-requires : goal.resume-ran-requires
 resume-ran-requires c =
-    let R = c.requires.1.0 in
-    let t = c.requires.1.1 in
+    let R = c.requires.0 in
+    let t = c.requires.1 in
     record {
       row = R;
       bench = bench_of R c.args.bench.now;
@@ -63,9 +63,9 @@ resume-ran-requires c =
 pub save-requires : goal.save-requires
 save-requires c =
     let d = (goal.at.save-requires c).After-resume-ran in
-    let R = c.requires.1.0 in
-    let t = c.requires.1.1 in
-    (c.requires.0, (R, (left d R, ((left_stands d R t).0, saves d R t))))
+    let R = c.requires.0 in
+    let t = c.requires.1 in
+    (R, (left d R, ((left_stands d R t).0, saves d R t)))
 
 pub returns : goal.returns
 returns c R t =

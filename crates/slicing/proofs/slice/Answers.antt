@@ -1,5 +1,5 @@
 -- `slice`: what was read of a row is laid out for the engine, the bench is told in form or not, and what is in form is advanced.
-use Rattle.std.proofs.Common.{◌≡◌, ◌+◌, ℕ, length, take, true, false, arith, refl, sym, ◌∙◌}
+use Rattle.std.proofs.Common.{◌≡◌, length, true, false, arith, refl, sym, ◌∙◌}
 use Rattle.std.proofs.lemmas.List.{length-take-le}
 use Rattle.rules.specs.Row.{Row}
 use Rattle.reading.specs.Reads.{Holds}
@@ -13,17 +13,14 @@ use Rattle.slicing.proofs.slice.Goals as goal
 
 pub lay_starts-requires : goal.lay_starts-requires
 lay_starts-requires c =
-    let holds = c.requires.bench_len.1.1 in
+    let holds = c.requires.holds.1 in
     (few_cells_lem holds, omega (arith, length-take-le _ c.args.places.now c.requires.lent.places_long), width_near holds)
 
 pub load-requires : goal.load-requires
 load-requires c =
-    let few = few_cells_lem c.requires.bench_len.1.1 in
+    let few = few_cells_lem c.requires.holds.1 in
     let s = started c.requires.lent c.lay_starts.ensures.starts c.lay_starts.ensures.others in
-    record {
-      bench_len = c.requires.bench_len.0;
-      places_in_bounds = (omega (arith, s.many), omega (arith, s.many), omega (arith, s.many, c.requires.lent.clumps_long));
-    }
+    record { places_in_bounds = (omega (arith, s.many), omega (arith, s.many), omega (arith, s.many, c.requires.lent.clumps_long)) }
 
 pub returns-in_default : goal.returns-in_default
 returns-in_default c R holds =
@@ -38,7 +35,7 @@ returns-in_default c R holds =
 pub lay_out-requires : goal.lay_out-requires
 lay_out-requires c =
     let s = started c.requires.lent c.lay_starts.ensures.starts c.lay_starts.ensures.others in
-    (length c.args.sheet.widths.now, lays_by c.requires.bench_len.1.1 c.requires.lent s)
+    (length c.args.sheet.widths.now, lays_by c.requires.holds.1 c.requires.lent s)
 
 -- a bench in form, of the row that was read by what was kept of it
 begins : (c : After-lay_out) (R : Row) → Holds c.args.sheet.width c.args.sheet.widths.now c.args.sheet.nets.now R
@@ -51,8 +48,8 @@ begins c R holds =
 
 pub advance-requires : goal.advance-requires
 advance-requires c =
-    let r = c.requires.bench_len in
-    (r.0, (r.1.0, begins (goal.at.advance-requires c).After-lay_out r.1.0 r.1.1))
+    let r = c.requires.holds in
+    (r.0, begins (goal.at.advance-requires c).After-lay_out r.0 r.1)
 
 pub returns : goal.returns
 returns c R holds =
