@@ -6,7 +6,6 @@ pub mod MadeLaws
 pub mod ApartLaws
 pub mod FormLaws
 pub mod FitsLaws
-pub mod ColumnLaws
 pub mod PassedLaws
 pub mod LoadLaws
 pub mod StoreLaws

@@ -1,4 +1,4 @@
-pub mod ColumnLaws
+pub mod PutLaws
 pub mod ClumpLaws
 pub mod SizeLaws
 pub mod HandLaws

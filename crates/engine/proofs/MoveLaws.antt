@@ -20,7 +20,8 @@ use Rattle.engine.specs.declared.Next.{Next}
 use Rattle.engine.specs.declared.Next.TheVariants.{Joins as Joining, Settles as Settling}
 use borrow.Author.Tests.{leb-false}
 use Rattle.engine.proofs.HandLaws.{is_made, all_made, inside, packed_within, bound_first}
-use Rattle.engine.proofs.ColumnLaws.{cells_length, lists_settled}
+use Rattle.changes.specs.ColumnLaws.{cells_length}
+use Rattle.engine.proofs.PutLaws.{lists_settled}
 use Rattle.engine.proofs.ChoiceLaws.{FoundFor, joins_by}
 use Rattle.engine.proofs.HeapLaws.{with_keys}
 use Rattle.engine.proofs.StepLaws.{opened_stands, found_stands, settled_stands, joined_stands}

@@ -24,7 +24,8 @@ use Rattle.changes.specs.declared.Clump.{Clump as Held}
 use Rattle.engine.specs.Stands.{Lists, lists_of, stand_of, limit_of, AllHeaps, HandHeap, Listed, Numbers, Roomy, Stands}
 use Rattle.engine.specs.Taken.{with_hand, Makes, MadeAs}
 use Rattle.engine.specs.declared.Bench.{Bench}
-use Rattle.engine.proofs.ColumnLaws.{no_clump, cells_length, edges_length, sizes_length, sums_length, cells_read, edge_read, lists_put, lists_set}
+use Rattle.changes.specs.ColumnLaws.{no_clump, cells_length, edges_length, sizes_length, sums_length, cells_read, edge_read}
+use Rattle.engine.proofs.PutLaws.{lists_put, lists_set}
 use Rattle.engine.proofs.HandLaws.{edge_packed}
 use Rattle.engine.proofs.HeapLaws.{roomy_keys, heaps_kept, heaps_before, makes_by, made_heap}
 

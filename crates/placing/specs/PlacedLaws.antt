@@ -23,7 +23,7 @@ use Rattle.benches.specs.declared.Saved.{Saved}
 use Rattle.benches.specs.Saved.{Told, Tells}
 use Rattle.benches.specs.BothLaws.{clash}
 use Rattle.benches.specs.FormLaws.{formed, by_hand, bench_with, bench_without}
-use Rattle.benches.specs.ColumnLaws.{cells_length}
+use Rattle.changes.specs.ColumnLaws.{cells_length}
 use Rattle.benches.specs.LegalLaws.{finished_legal}
 use Rattle.measuring.specs.Measures.{Measurable}
 use Rattle.measuring.specs.HeldLaws.{measurable, measured_length}

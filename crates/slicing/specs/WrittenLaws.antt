@@ -16,7 +16,7 @@ use Rattle.slopes.specs.Apart.{proper_clumps}
 use Rattle.changes.specs.declared.Clump.{Clump as Held}
 use Rattle.changes.specs.Columns.{cells_of, edges_of}
 use Rattle.benches.specs.Saved.{none, Written}
-use Rattle.benches.specs.ColumnLaws.{cells_length, edges_length, cells_set, edges_set}
+use Rattle.changes.specs.ColumnLaws.{cells_length, edges_length, cells_set, edges_set}
 use Rattle.engine.specs.declared.Bench.{Bench}
 use Rattle.engine.specs.Stands.{Listed, Numbers}
 use Rattle.slicing.specs.Begun.{Saves}

@@ -6,7 +6,7 @@ use Rattle.layout.specs.Columns.{starts_of}
 use Rattle.layout.specs.declared.Place.{Place}
 use Rattle.benches.specs.Saved.{Told}
 use Rattle.benches.specs.FitsLaws.{Head, head_told}
-use Rattle.benches.specs.ColumnLaws.{starts_length}
+use Rattle.layout.specs.ColumnLaws.{starts_length}
 use Rattle.benches.specs.LoadLaws.{hand_is, refused_head, refused_zeros, refused_parts, loaded}
 use Rattle.benches.proofs.load.Goals.{Then-head_fits}
 use Rattle.benches.proofs.load.Goals.{else-head_fits-via-then-head_fits+then-zero_from+else-parts_fit, else-head_fits-via-then-head_fits+else-zero_from, else-head_fits-via-else-head_fits}

@@ -3,7 +3,8 @@ use Rattle.std.proofs.Common.{◌≡◌, ◌+◌, refl, sym, ◌∙◌, arith, l
 use Rattle.layout.specs.Columns.{starts_of}
 use Rattle.benches.specs.Fits.{ends_by, edge_fits}
 use Rattle.benches.specs.BothLaws.{both, first_fails, second_fails}
-use Rattle.benches.specs.ColumnLaws.{cells_length, edges_length, cells_set, edges_set, starts_at}
+use Rattle.layout.specs.ColumnLaws.{start_read}
+use Rattle.changes.specs.ColumnLaws.{cells_length, edges_length, cells_set, edges_set}
 use Rattle.benches.specs.PassedLaws.{passed_none, passed_more, passed_stop}
 use Rattle.benches.proofs.parts_fit.Goals.{After-edge_fits}
 use Rattle.benches.proofs.parts_fit.Goals as goal
@@ -31,7 +32,7 @@ edge_told :
 edge_told c =
     let places = c.args.places.now in
     let l = c.loop-k in
-    rw (starts_at places l.last, starts_at places l.first, starts_at places (l.first + c.from.result)) (cc)
+    rw (start_read places l.last, start_read places l.first, start_read places (l.first + c.from.result)) (cc)
 
 pub returns-then-not-edge_fits-clause-parted : goal.returns-then-not-edge_fits-clause-parted
 returns-then-not-edge_fits-clause-parted c =

@@ -3,7 +3,7 @@ use Rattle.std.proofs.Common.{◌≡◌, ◌*◌, ℕ, cond, length, sym, ap, �
 use Rattle.rules.specs.Sizes.{most_cells, part_size}
 use Rattle.changes.specs.Columns.{cells_of, edges_of}
 use Rattle.benches.specs.Saved.{head_bytes}
-use Rattle.benches.specs.ColumnLaws.{cells_at, edges_at}
+use Rattle.changes.specs.ColumnLaws.{cells_read, edge_read}
 use Rattle.benches.specs.StoreLaws.{head_length, stored, stored_none, stored_more, written}
 use Rattle.benches.proofs.store.Goals as goal
 
@@ -16,7 +16,7 @@ loop-k-preserved c =
     let l = c.loop-k in
     let clumps = a.clumps.now in
     stored_more _ _ _ _ l.k _ _ _ _ _ (head_length a.opened (cond a.held 1 0) (length clumps) a.carried.0) l.invariant
-    (cells_at clumps l.k) (edges_at clumps l.k) c.put_u16.ensures c.put_u32.ensures
+    (cells_read clumps l.k) (edge_read clumps l.k) c.put_u16.ensures c.put_u32.ensures
 
 pub returns : goal.returns
 returns c b w =

@@ -1,6 +1,6 @@
 -- `resume`: what the remade lists stand for, the run takes on.
 use Rattle.std.proofs.Common.{arith}
-use Rattle.engine.proofs.ColumnLaws.{cells_length}
+use Rattle.changes.specs.ColumnLaws.{cells_length}
 use Rattle.engine.proofs.resume.Goals as goal
 
 pub returns : goal.returns

@@ -5,7 +5,7 @@ use Rattle.rules.specs.Steps.{Bench as Meant, finished, run}
 use Rattle.slopes.specs.Runs.{run_zero, taken_zero, run_past, taken_past}
 use Rattle.engine.specs.Laid.{seen, Laid}
 use Rattle.engine.specs.Stands.{lists_of, Stands}
-use Rattle.engine.proofs.ColumnLaws.{starts_length}
+use Rattle.layout.specs.ColumnLaws.{starts_length}
 use Rattle.engine.proofs.RunLaws.{finished_is, run_next, taken_next}
 use Rattle.engine.proofs.run.Goals.{After-finished}
 use Rattle.engine.proofs.run.Goals as goal

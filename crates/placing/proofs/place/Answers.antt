@@ -7,7 +7,7 @@ use Rattle.reading.specs.Reads.{Holds}
 use Rattle.changes.specs.Columns.{cells_of, edges_of}
 use Rattle.layout.specs.Columns.{starts_of}
 use Rattle.benches.specs.Saved.{Tells}
-use Rattle.benches.specs.ColumnLaws.{starts_length}
+use Rattle.layout.specs.ColumnLaws.{starts_length}
 use Rattle.placing.specs.Puts.{Ready}
 use Rattle.placing.specs.PlacedLaws.{held_told, finished_told, clumps_fit, ready, after_measurable, after_measured, placed_unfinished, placed_finished}
 use Rattle.placing.proofs.place.Goals.{After-is_finished}

@@ -3,7 +3,7 @@ use Rattle.std.proofs.Common.{ℕ, ◌+◌, ◌-◌, ◌≤◌, ◌<◌, ◌≡�
 use Rattle.rules.specs.Row.{Row}
 use Rattle.rules.specs.Bench.{saved_clumps, saved_cells, saved_edge, cells_before}
 use Rattle.changes.specs.Columns.{cells_of, edges_of}
-use Rattle.benches.specs.ColumnLaws.{cells_length, cells_at, edges_at}
+use Rattle.changes.specs.ColumnLaws.{cells_length, cells_read, edge_read}
 use Rattle.placing.specs.Sites.{over, over_none}
 use Rattle.placing.specs.Puts.{Ready}
 use Rattle.placing.specs.PutLaws.{positions_to, positions_none, cells_none, cells_next, clump_inside, clump_near, put_next, put_all}
@@ -25,13 +25,13 @@ module _
     begins = (c.loop-clump.invariant R s r).0
 
     has : c.from.result ≡ saved_cells s c.loop-clump.clump-index
-    has = c.from.ensures ∙ sym (cells_at c.args.clumps.now c.loop-clump.clump-index) ∙ r.cells_are c.loop-clump.clump-index at_hand
+    has = c.from.ensures ∙ sym (cells_read c.args.clumps.now c.loop-clump.clump-index) ∙ r.cells_are c.loop-clump.clump-index at_hand
 
     abbrev edge : ℕ
     edge = (slice_index_or c.args.clumps.now c.loop-clump.clump-index (record { cells = 0; edge = 0; size = 0; sum = 0 })).edge
 
     stands : edge ≡ saved_edge s c.loop-clump.clump-index
-    stands = sym (edges_at c.args.clumps.now c.loop-clump.clump-index) ∙ r.edges_are c.loop-clump.clump-index at_hand
+    stands = sym (edge_read c.args.clumps.now c.loop-clump.clump-index) ∙ r.edges_are c.loop-clump.clump-index at_hand
 
     inside : c.loop-clump.first + c.from.result ≤ length R.widths
     inside = omega (arith, begins, has, clump_inside R s r.form r.ends c.loop-clump.clump-index at_hand)

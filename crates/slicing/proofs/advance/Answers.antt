@@ -4,7 +4,8 @@ use Rattle.rules.specs.Row.{Row}
 use Rattle.rules.specs.Steps.{Bench as Meant, run, steps_taken}
 use Rattle.rules.specs.Bench.{bench_of}
 use Rattle.changes.specs.Columns.{cells_of, edges_of}
-use Rattle.benches.specs.ColumnLaws.{cells_length, starts_length}
+use Rattle.layout.specs.ColumnLaws.{starts_length}
+use Rattle.changes.specs.ColumnLaws.{cells_length}
 use Rattle.benches.specs.declared.Saved.{Saved}
 use Rattle.engine.specs.declared.Bench.{Bench}
 use Rattle.engine.specs.Laid.{Layout, seen}

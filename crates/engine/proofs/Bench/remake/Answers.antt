@@ -4,7 +4,8 @@ use Rattle.rules.specs.Sizes.{most_cells}
 use Rattle.changes.specs.FillLaws.{filled_few}
 use Rattle.changes.specs.declared.Clump.{Clump}
 use Rattle.engine.specs.Laid.{seen}
-use Rattle.engine.proofs.ColumnLaws.{no_clump, starts_length, start_read, bound_read}
+use Rattle.layout.specs.ColumnLaws.{starts_length, start_read, bound_read}
+use Rattle.changes.specs.ColumnLaws.{no_clump}
 use Rattle.engine.proofs.RemakeLaws.{Remade, remade_none, few_settled, NextAsks, next_asks, clump_more, hand_makes, remade_without, remade_with}
 use Rattle.engine.proofs.Bench.remake.Goals.{In-loop-k, After-from-end}
 use Rattle.engine.proofs.Bench.remake.Goals as goal

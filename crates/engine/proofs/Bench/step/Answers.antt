@@ -7,7 +7,7 @@ use Rattle.engine.specs.Laid.{seen, Laid}
 use Rattle.engine.specs.Stands.{lists_of, Stands}
 use Rattle.engine.specs.Taken.{with_hand, kept_next, Seeks, FindsAs}
 use Rattle.engine.specs.declared.Next.{Next}
-use Rattle.engine.proofs.ColumnLaws.{no_place, starts_length, start_read, bound_read, need_read}
+use Rattle.layout.specs.ColumnLaws.{no_place, starts_length, start_read, bound_read, need_read}
 use Rattle.engine.proofs.MoveLaws.{opens_asks, opens_stands, Chosen, settles_asks, settles_stands, joins_asks, joins_stands, move_makes, move_last, move_limit, move_want, move_rooms, move_seeks, move_chosen}
 use Rattle.engine.proofs.Bench.step.Goals.{Else-self, After-from-base}
 use Rattle.engine.proofs.Bench.step.Goals as goal
