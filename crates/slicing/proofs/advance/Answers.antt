@@ -1,5 +1,5 @@
 -- `advance`: the numbers that are made stand for the bench that the saved bytes stand for, and so what is written is the bench that the run leaves.
-use Rattle.std.proofs.Common.{◌≤◌, ◌≡◌, List, ℕ, length, arith, sym, subst, ◌∙◌}
+use Rattle.std.proofs.Common.{◌≤◌, ◌≡◌, List, ℕ, length, arith, ◌∙◌}
 use Rattle.rules.specs.Row.{Row}
 use Rattle.rules.specs.Steps.{Bench as Meant, run, steps_taken}
 use Rattle.rules.specs.Bench.{bench_of}

@@ -1,7 +1,6 @@
 -- `save`: the numbers and the list are those of the bench that is written; a clump in hand is put after the settled ones first.
-use Rattle.std.proofs.Common.{◌≤◌, ◌+◌, ◌≡◌, ℕ, List, length, take, add-zero, arith, refl, sym, ◌∙◌, ne_eqb, eq-eqb}
+use Rattle.std.proofs.Common.{◌≤◌, ◌+◌, ◌≡◌, length, take, add-zero, arith, refl, sym, ◌∙◌, ne_eqb, eq-eqb}
 use Rattle.std.proofs.lemmas.List.{length-take-le}
-use Rattle.rules.specs.Row.{Row}
 use Rattle.slicing.specs.WrittenLaws.{written_without, written_with, left_within, hand_within}
 use Rattle.slicing.proofs.save.Goals.{After-from, then-held, else-held}
 use Rattle.slicing.proofs.save.Goals as goal
