@@ -3,6 +3,7 @@ use Rattle.std.specs.Prelude.{ℕ, ◌+◌, ◌*◌, ◌≤◌, ◌≡◌, List,
 use Rattle.std.proofs.Common.{arith, ◌∙◌, refl}
 use Rattle.std.proofs.lemmas.List.{length-replicate, length-map, get_or-map, get_or-replicate}
 use Rattle.rules.specs.declared.Change.{Change}
+use Rattle.nets.specs.declared.Net.{Net}
 use Rattle.changes.specs.declared.Clump.{Clump}
 use Rattle.layout.specs.declared.Place.{Place}
 use Rattle.layout.specs.Columns.{bounds_of, needs_of}
@@ -19,15 +20,18 @@ blank_column f ends few p long zero =
           ∙ (rw (get_or-replicate ends i p p (omega arith)) zero);
     }
 
-pub lent_fresh : {CELLS NETS ENDS CHANGES few light : ℕ} (p : Place) (c : Change) (k : Clump) → ENDS ≡ CELLS + 1 → CHANGES ≡ 2 * NETS
-    → few ≤ CELLS → light ≤ NETS → p.bound ≡ 0 → p.need ≡ 0
+-- few and light are what was read of the lists of widths and nets
+pub lent_fresh : (CELLS NETS ENDS CHANGES few light w : ℕ) (n : Net) (p : Place) (c : Change) (k : Clump) → ENDS ≡ CELLS + 1 → CHANGES ≡ 2 * NETS
+    → few ≤ length (replicate CELLS w) → light ≤ length (replicate NETS n) → p.bound ≡ 0 → p.need ≡ 0
     → Lent few light (replicate ENDS p) (replicate CHANGES c) (replicate CELLS k) (replicate CHANGES 0)
-lent_fresh {CELLS} {NETS} {ENDS} {CHANGES} {few} {light} p c k ends changes cells nets bound need =
+lent_fresh CELLS NETS ENDS CHANGES few light w n p c k ends changes cells nets bound need =
+    let cells_most : few ≤ CELLS = omega (arith, cells, length-replicate {A = ℕ} CELLS w) in
+    let nets_most : light ≤ NETS = omega (arith, nets, length-replicate NETS n) in
     record {
-      places_long = omega (arith, length-replicate ENDS p);
-      bounds_blank = blank_column (λ (x : Place). x.bound) ENDS few p (omega arith) bound;
-      needs_blank = blank_column (λ (x : Place). x.need) ENDS few p (omega arith) need;
-      changes_long = omega (arith, length-replicate CHANGES c);
-      clumps_long = omega (arith, length-replicate CELLS k);
-      keys_long = omega (arith, length-replicate {A = ℕ} CHANGES 0);
+      places_long = omega (arith, cells_most, length-replicate ENDS p);
+      bounds_blank = blank_column (λ (x : Place). x.bound) ENDS few p (omega (arith, cells_most)) bound;
+      needs_blank = blank_column (λ (x : Place). x.need) ENDS few p (omega (arith, cells_most)) need;
+      changes_long = omega (arith, nets_most, length-replicate CHANGES c);
+      clumps_long = omega (arith, cells_most, length-replicate CELLS k);
+      keys_long = omega (arith, nets_most, length-replicate {A = ℕ} CHANGES 0);
     }

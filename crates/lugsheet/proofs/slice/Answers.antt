@@ -1,5 +1,5 @@
 -- `slice`: what reading the row answers is told, and so is what the slice of a row that was read answers and leaves.
-use Rattle.std.proofs.Common.{rules, refl}
+use Rattle.std.proofs.Common.{rules}
 use Rattle.lugsheet.specs.CallLaws.{told_by, slice_err, slice_room, slice_refused, slice_done}
 use Rattle.lugsheet.specs.RoomLaws.{lent_fresh}
 use Rattle.lugsheet.proofs.slice.Goals as goal
@@ -18,7 +18,10 @@ returns-then-bench-ne-BENCH_SIZE g c =
 
 pub slice-requires-clause-lent : goal.slice-requires-clause-lent
 slice-requires-clause-lent g c =
-    let w = c.in_ok-sheet.ensures.within in lent_fresh _ _ _ c.requires.1.0 c.requires.1.1 w.0 w.1 refl refl
+    let w = c.in_ok-sheet.ensures.within in
+    let zeros = c.default-places.ensures in
+    lent_fresh _ _ _ _ _ _ _ _ c.default-places.result c.default-changes.result c.default-clumps.result c.requires.1 c.requires.2 w.0 w.1
+    zeros.1.0 zeros.1.1.1
 
 pub returns-in-Ok : goal.returns-in-Ok
 returns-in-Ok g c =
