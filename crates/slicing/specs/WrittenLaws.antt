@@ -101,14 +101,11 @@ first_written b opened held n carried cs l w =
       edges_are = λ k h. let h' : k < n = omega arith in rw (← take-map (λ (c : Held). c.edge) n cs, get_or-take n (edges_of cs) k 0 h') (w.edges_are k h');
     }
 
-module _ (R : Row) (e : Bench) (clumps : List Held) where
-  abbrev Stood : Meant → Type 0
-  Stood b = Numbers R e (cells_of clumps) (edges_of clumps) b
-
+module _ {R : Row} {e : Bench} {clumps : List Held} {b : Meant} (n : Numbers R e (cells_of clumps) (edges_of clumps) b) (v : Saves R clumps) where
   -- with a clump in hand its cells are the last that were opened
-  some_held : (b : Meant) → Stood b → (c : Clump) → b.hand ≡ holding c → (e.first < e.opened) × (e.opened - e.first ≡ c.cells) × (c.edge ≡ 0)
+  some_held : (c : Clump) → b.hand ≡ holding c → (e.first < e.opened) × (e.opened - e.first ≡ c.cells) × (c.edge ≡ 0)
   unfolding cells_in
-  some_held b n c q =
+  some_held c q =
       let all : cells_in (all_clumps (holding c) b.settled) ≡ b.opened = rw q at n.proper.all_cells in
       let some = rw q at n.proper.all_made in
       let edge : hand_edge (holding c) ≡ 0 = rw q at n.proper.hand_edge in (
@@ -117,29 +114,29 @@ module _ (R : Row) (e : Bench) (clumps : List Held) where
         edge,
       )
 
-  none_held : (b : Meant) → Stood b → b.hand ≡ empty → e.first ≡ e.opened
-  none_held b n q =
+  none_held : b.hand ≡ empty → e.first ≡ e.opened
+  none_held q =
       let all : cells_in (all_clumps empty b.settled) ≡ b.opened = rw q at n.proper.all_cells in
       omega (arith, n.first_is, n.opened_is)
 
   -- nothing in hand
-  without_hand : (b : Meant) → Stood b → e.first ≡ e.opened → (hand : Hand) → b.hand ≡ hand
+  without_hand : e.first ≡ e.opened → (hand : Hand) → b.hand ≡ hand
       → (in_hand b.hand ≡ false) × (length (all_clumps b.hand b.settled) ≡ length b.settled)
       × Listed (cells_of clumps) (edges_of clumps) (all_clumps b.hand b.settled)
   unfolding in_hand
-  without_hand b n t empty q = rw q (refl, refl, n.listed)
-  without_hand b n t (holding c) q = absurd (omega (arith, (some_held b n c q).0))
+  without_hand t empty q = rw q (refl, refl, n.listed)
+  without_hand t (holding c) q = absurd (omega (arith, (some_held c q).0))
 
   -- a clump in hand, put after the settled ones at edge 0
-  with_hand_lem : (b : Meant) → Stood b → (e.first ≡ e.opened → ⊥) → Saves R clumps → (hand : Hand) → b.hand ≡ hand
+  with_hand_lem : (e.first ≡ e.opened → ⊥) → (hand : Hand) → b.hand ≡ hand
       → (in_hand b.hand ≡ true) × (length (all_clumps b.hand b.settled) ≡ length b.settled + 1)
       × Listed (set (cells_of clumps) e.settled (e.opened - e.first)) (set (edges_of clumps) e.settled 0) (all_clumps b.hand b.settled)
   unfolding in_hand
-  with_hand_lem b n t v empty q = absurd (t (none_held b n q))
-  with_hand_lem b n t v (holding c) q =
+  with_hand_lem t empty q = absurd (t (none_held q))
+  with_hand_lem t (holding c) q =
       let cells = cells_of clumps in
       let edges = edges_of clumps in
-      let held = some_held b n c q in
+      let held = some_held c q in
       let place = n.settled_is in
       let count : length (all_clumps (holding c) b.settled) ≤ b.opened = rw q at (proper_clumps R b n.proper) in
       let room : e.settled < length clumps = omega (arith, v.clumps_long, n.within) in
@@ -154,52 +151,50 @@ module _ (R : Row) (e : Bench) (clumps : List Held) where
       )
 
   -- what writing asks of the numbers
-  pub left_within : (b : Meant) → Stood b → Saves R clumps → (e.opened ≤ most_cells) × (e.settled ≤ length R.widths)
-  left_within b n v = (
+  pub left_within : (e.opened ≤ most_cells) × (e.settled ≤ length R.widths)
+  left_within = (
     omega (arith, n.opened_is, n.within, v.few),
     omega (arith, n.settled_is, n.within, proper_clumps R b n.proper, length-append (hand_clump b.hand) b.settled),
   )
 
-  hand_by : (b : Meant) → Stood b → (e.first ≡ e.opened → ⊥) → (hand : Hand) → b.hand ≡ hand
-      → (e.settled < length R.widths) × (e.first ≤ e.opened)
-  hand_by b n t empty q = absurd (t (none_held b n q))
-  hand_by b n t (holding c) q =
+  hand_by : (e.first ≡ e.opened → ⊥) → (hand : Hand) → b.hand ≡ hand → (e.settled < length R.widths) × (e.first ≤ e.opened)
+  hand_by t empty q = absurd (t (none_held q))
+  hand_by t (holding c) q =
       let count : length (all_clumps (holding c) b.settled) ≤ b.opened = rw q at (proper_clumps R b n.proper) in
-      (omega (arith, n.settled_is, n.within), omega (arith, (some_held b n c q).0))
+      (omega (arith, n.settled_is, n.within), omega (arith, (some_held c q).0))
 
-  pub hand_within : (b : Meant) → Stood b → (e.first ≡ e.opened → ⊥) → (e.settled < length R.widths) × (e.first ≤ e.opened)
-  hand_within b n t = hand_by b n t b.hand refl
+  pub hand_within : (e.first ≡ e.opened → ⊥) → (e.settled < length R.widths) × (e.first ≤ e.opened)
+  hand_within t = hand_by t b.hand refl
 
   -- ---- the bench that is written
 
-  pub written_without : (b : Meant) → Stood b → e.first ≡ e.opened → Saves R clumps
+  pub written_without : e.first ≡ e.opened
       → Written e.opened false (length (take e.settled clumps)) e.carried.0 (cells_of (take e.settled clumps)) (edges_of (take e.settled clumps)) b
-  written_without b n t v =
-      let w = without_hand b n t b.hand refl in
-      first_written b e.opened false e.settled e.carried.0 clumps (omega (arith, (left_within b n v).1, v.clumps_long))
+  written_without t =
+      let w = without_hand t b.hand refl in
+      first_written b e.opened false e.settled e.carried.0 clumps (omega (arith, left_within.1, v.clumps_long))
       (all_written b e.opened false e.settled e.carried.0 _ _ n.opened_is w.0 (n.settled_is ∙ sym w.1) n.carried_is w.2)
 
   -- with the clump in hand put there
-  pub written_with : (b : Meant) → Stood b → (e.first ≡ e.opened → ⊥) → Saves R clumps → (c : Held) → c.cells ≡ e.opened - e.first → c.edge ≡ 0
-      → (cs : List Held) → cs ≡ set clumps e.settled c
-      → Written e.opened true (length (take (e.settled + 1) cs)) e.carried.0 (cells_of (take (e.settled + 1) cs)) (edges_of (take (e.settled + 1) cs)) b
-  written_with b n t v c cells edge cs put =
-      let w = with_hand_lem b n t v b.hand refl in
+  pub written_with : (e.first ≡ e.opened → ⊥) → (c : Held) → c.cells ≡ e.opened - e.first → c.edge ≡ 0
+      → (cs : List Held) → cs ≡ set clumps e.settled c → let first = take (e.settled + 1) cs in
+      Written e.opened true (length first) e.carried.0 (cells_of first) (edges_of first) b
+  written_with t c cells edge cs put =
+      let w = with_hand_lem t b.hand refl in
       let listed : Listed (cells_of (set clumps e.settled c)) (edges_of (set clumps e.settled c)) (all_clumps b.hand b.settled) =
       rw (cells_set clumps e.settled c, edges_set clumps e.settled c, cells, edge) w.2 in
       rw put
-      (first_written b e.opened true (e.settled + 1) e.carried.0 (set clumps e.settled c) (omega (arith, length-set clumps e.settled c, (hand_within b n t).0, v.clumps_long))
+      (first_written b e.opened true (e.settled + 1) e.carried.0 (set clumps e.settled c)
+      (omega (arith, length-set clumps e.settled c, (hand_within t).0, v.clumps_long))
       (all_written b e.opened true (e.settled + 1) e.carried.0 _ _ n.opened_is w.0 (omega (arith, n.settled_is, w.1)) n.carried_is listed))
 
   -- ---- whether all is done
 
-  finished_by_lem : (b : Meant) → Stood b → (hand : Hand) → b.hand ≡ hand
-      → eqb e.first e.opened && leb (length R.widths) e.opened ≡ finished_by R b.opened hand
+  finished_by_lem : (hand : Hand) → b.hand ≡ hand → eqb e.first e.opened && leb (length R.widths) e.opened ≡ finished_by R b.opened hand
   unfolding finished_by
-  finished_by_lem b n empty q = rw (eq-eqb e.first e.opened (none_held b n q), n.opened_is) refl
-  finished_by_lem b n (holding c) q = rw (ne_eqb e.first e.opened (λ z. omega (arith, (some_held b n c q).0))) refl
+  finished_by_lem empty q = rw (eq-eqb e.first e.opened (none_held q), n.opened_is) refl
+  finished_by_lem (holding c) q = rw (ne_eqb e.first e.opened (λ z. omega (arith, (some_held c q).0))) refl
 
-  pub finished_is : (count : ℕ) (b : Meant) → count ≡ length R.widths → Stood b
-      → eqb e.first e.opened && leb count e.opened ≡ finished R b
+  pub finished_is : (count : ℕ) → count ≡ length R.widths → eqb e.first e.opened && leb count e.opened ≡ finished R b
   unfolding finished
-  finished_is count b m n = rw m (finished_by_lem b n b.hand refl)
+  finished_is count m = rw m (finished_by_lem b.hand refl)

@@ -1,5 +1,5 @@
 -- `advance`: the numbers that are made stand for the bench that the saved bytes stand for, and so what is written is the bench that the run leaves.
-use Rattle.std.proofs.Common.{◌≤◌, ◌≡◌, List, ℕ, length, arith, sym, subst, ◌∙◌}
+use Rattle.std.proofs.Common.{◌≤◌, ◌≡◌, List, ℕ, length, arith, ◌∙◌}
 use Rattle.rules.specs.Row.{Row}
 use Rattle.rules.specs.Steps.{Bench as Meant, run, steps_taken}
 use Rattle.rules.specs.Bench.{bench_of}
@@ -16,11 +16,9 @@ use Rattle.slicing.specs.WrittenLaws.{finished_is}
 use Rattle.slicing.proofs.advance.Goals.{After-resume-ran}
 use Rattle.slicing.proofs.advance.Goals as goal
 
-begun_stands : (R : Row) (e : Bench) (s : List ℕ) (saved : Saved) (width : ℕ) (y : Layout) (ls : Lists)
+begun_stands : {R : Row} {e : Bench} {s : List ℕ} {saved : Saved} {width : ℕ} {y : Layout} {ls : Lists}
     → e ≡ begun saved ls.cells → Begins R s saved width y ls → Numbers R e ls.cells ls.edges (bench_of R s)
-begun_stands R e s saved width y ls is t =
-    subst (λ (k : Bench). Numbers R k ls.cells ls.edges (bench_of R s)) (sym is)
-    (begun_numbers R s ls.cells ls.edges saved t.form t.tells t.laid.few_cells)
+begun_stands {R} {e} {s} {saved} {width} {y} {ls} is t = rw is (begun_numbers R s ls.cells ls.edges saved t.form t.tells t.laid.few_cells)
 
 -- what is asked, of any row, and what the run leaves
 module _ (c : After-resume-ran) (R : Row) where
@@ -35,8 +33,7 @@ module _ (c : After-resume-ran) (R : Row) where
       × (c.resume-ran.result.steps.0 ≡ steps_taken R c.args.budget (bench_of R c.args.bench.now))
       × (length R.widths ≤ length c.resume-ran.new.clumps)
   left_stands t =
-      c.resume-ran.ensures R (bench_of R c.args.bench.now) t.wide t.laid
-      (begun_stands R c.begin-from.result c.args.bench.now c.args.saved c.args.row.width _ _ c.begin-from.ensures t) t.roomy
+      c.resume-ran.ensures R (bench_of R c.args.bench.now) t.wide t.laid (begun_stands c.begin-from.ensures t) t.roomy
 
   saves : Asked → Saves R c.resume-ran.new.clumps
   saves t = record { few = t.laid.few_cells; clumps_long = (left_stands t).2 }
@@ -57,7 +54,7 @@ resume-ran-requires c =
       bench = bench_of R c.args.bench.now;
       width_is = t.wide;
       laid = t.laid;
-      numbers = begun_stands R c.begin-from.result c.args.bench.now c.args.saved c.args.row.width _ _ c.begin-from.ensures t;
+      numbers = begun_stands c.begin-from.ensures t;
       roomy = t.roomy;
     }
 
@@ -75,6 +72,6 @@ returns c R t =
     let count : c.cells.result ≡ length R.widths = omega (arith, t.laid.starts_long, starts_length c.args.row.places.now, c.cells.ensures) in
     record {
       steps = l.1;
-      ends = c.finished.ensures ∙ finished_is R c.resume-ran.result.bench c.resume-ran.new.clumps c.cells.result (left d R) count l.0;
+      ends = c.finished.ensures ∙ finished_is l.0 (saves d R t) c.cells.result count;
       bytes = c.save.ensures R (left d R) l.0 (saves d R t);
     }

@@ -1,36 +1,13 @@
 -- `slice`: what was read of a row is laid out for the engine, the bench is told in form or not, and what is in form is advanced.
-use Rattle.std.proofs.Common.{◌≡◌, length, true, false, arith, refl, sym, ◌∙◌}
-use Rattle.std.proofs.lemmas.List.{length-take-le}
+use Rattle.std.proofs.Common.{◌≡◌, length, true, false, refl, sym, ◌∙◌}
 use Rattle.rules.specs.Row.{Row}
 use Rattle.reading.specs.Reads.{Holds}
 use Rattle.engine.specs.Laid.{layout_of}
 use Rattle.engine.specs.Stands.{lists_of}
 use Rattle.slicing.specs.Begun.{Begins}
-use Rattle.slicing.specs.LaidLaws.{few_cells_lem, width_near}
 use Rattle.slicing.specs.BeginsLaws.{started, told_by, lays_by, begins_by}
 use Rattle.slicing.proofs.slice.Goals.{After-lay_out}
 use Rattle.slicing.proofs.slice.Goals as goal
-
-pub lay_starts-requires : goal.lay_starts-requires
-lay_starts-requires c =
-    let holds = c.requires.holds.1 in
-    (few_cells_lem holds, omega (arith, length-take-le _ c.args.places.now c.requires.lent.places_long), width_near holds)
-
-pub load-requires : goal.load-requires
-load-requires c =
-    let few = few_cells_lem c.requires.holds.1 in
-    let s = started c.requires.lent c.lay_starts.ensures.starts c.lay_starts.ensures.others in
-    record { places_in_bounds = (omega (arith, s.many), omega (arith, s.many), omega (arith, s.many, c.requires.lent.clumps_long)) }
-
-pub returns-in_default : goal.returns-in_default
-returns-in_default c R holds =
-    let s = started c.requires.lent c.lay_starts.ensures.starts c.lay_starts.ensures.others in
-    let out = c.in_default.ensures.loaded R (told_by holds s) in
-    record {
-      wrong = λ e. refl;
-      kept = λ e. refl;
-      moves = λ e. let z : ◌≡◌ true false = sym e ∙ out in cc;
-    }
 
 pub lay_out-requires : goal.lay_out-requires
 lay_out-requires c =
@@ -48,8 +25,7 @@ begins c R holds =
 
 pub advance-requires : goal.advance-requires
 advance-requires c =
-    let r = c.requires.holds in
-    (r.0, begins (goal.at.advance-requires c).After-lay_out r.0 r.1)
+    let r = c.requires.holds in (r.0, begins (goal.at.advance-requires c).After-lay_out r.0 r.1)
 
 pub returns : goal.returns
 returns c R holds =
