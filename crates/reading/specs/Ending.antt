@@ -1,5 +1,5 @@
 -- The end of a row: what EN and the bytes after it make of what was read (3, then 6, then taken), and that the lists then hold the row.
-use Rattle.std.specs.Prelude.{ℕ, ◌+◌, ◌≤◌, ◌<◌, ◌≡◌, refl, length, drop, take, List, reverse, Option, Result, Ok, Err}
+use Rattle.std.specs.Prelude.{ℕ, ◌+◌, ◌≤◌, ◌<◌, ◌≡◌, refl, length, drop, take, List, reverse, Result, Ok, Err}
 use Rattle.std.proofs.Common.{◌∙◌, arith, ne_eqb, eq-eqb, le-leb}
 use Rattle.std.proofs.lemmas.Bool.{lt-leb}
 use Rattle.rules.specs.Row.{Row}
@@ -72,22 +72,22 @@ module _ (s : List ℕ) (sum : ℕ) (p : Progress) (t : List ℕ) (c : Reading) 
 -- ---- what is answered
 
 -- EN closes the last net, and the lists hold the row that is taken
-holds_taken : (s ws : List ℕ) (sum : ℕ) (p : Progress) (t : List ℕ) (d : Option Draft) (ns : List Net) (c : Reading)
+holds_taken : (s ws : List ℕ) (sum : ℕ) (p : Progress) (t : List ℕ) (d : Draft) (ns : List Net) (c : Reading)
     → InNets s ws sum p t d ns c → record_at c t ≡ Ok En → read_row s ≡ taken (row_of c)
-    → Holds p.width ws (take p.nets (closed_by En p d ns)) (row_of c)
+    → Holds p.width ws (take p.nets (closed_by p d ns)) (row_of c)
 holds_taken s ws sum p t d ns c i is e =
     let u = i.underway in
     let m = answers_may c t En is in
     record {
       width_is = u.shows.width;
       widths_are = i.exact;
-      nets_are = rw (u.shows.nets, ← m.all_nets) (all_stored s ws sum p t d ns c i En refl);
+      nets_are = rw (u.shows.nets, ← m.all_nets) (all_stored s ws sum p t d ns c i);
       sound = sound_read s (row_of c) e;
     }
 
-pub reads_taken : (s ws : List ℕ) (sum : ℕ) (p : Progress) (t : List ℕ) (d : Option Draft) (ns : List Net) (c : Reading)
+pub reads_taken : (s ws : List ℕ) (sum : ℕ) (p : Progress) (t : List ℕ) (d : Draft) (ns : List Net) (c : Reading)
     → InNets s ws sum p t d ns c → record_at c t ≡ Ok En → read_row s ≡ taken (row_of c) → (h : Sheet) → h.width ≡ p.width → h.widths.now ≡ ws
-    → h.nets.now ≡ take p.nets (closed_by En p d ns) → Reads (read_row s) (Ok h)
+    → h.nets.now ≡ take p.nets (closed_by p d ns) → Reads (read_row s) (Ok h)
 reads_taken s ws sum p t d ns c i is e h width widths nets =
     rw (e, width, widths, nets) (holds_taken s ws sum p t d ns c i is e)
 

@@ -1,10 +1,10 @@
 -- The nets: what the loop over their records keeps, and what one record more makes of it.
-use Rattle.std.specs.Prelude.{ℕ, ◌-◌, ◌≤◌, ◌<◌, min, ◌≡◌, List, [], ◌∷◌, map, reverse, Bool, true, false, length, take, drop, get_or, set, Option, Some, None, IfSome, Result, Ok, Err}
+use Rattle.std.specs.Prelude.{ℕ, ◌-◌, ◌≤◌, ◌<◌, min, ◌≡◌, List, [], ◌∷◌, map, reverse, Bool, true, false, length, take, drop, get_or, set, cond, ltb, ℤ, Result, Ok, Err}
 use Rattle.std.proofs.Math.Path.{refl}
-use Rattle.std.proofs.Common.{sym, ap, ◌∙◌, arith}
+use Rattle.std.proofs.Common.{sym, ◌∙◌, arith}
 use Rattle.std.proofs.Math.ListN.{length-set}
 use Rattle.std.proofs.Math.Seq.{take-suc-set}
-use Rattle.std.proofs.lemmas.Bool.{false≢true}
+use Rattle.std.proofs.lemmas.Bool.{false≢true, lt-ltb}
 use Rattle.std.proofs.lemmas.List.{ext_get_or, get_or-take, length-take-le}
 use mathlib.Core.List.{map-append, reverse-cons}
 use Rattle.numbers.specs.Bytes.{u16_at}
@@ -29,41 +29,29 @@ use Rattle.nets.specs.declared.Net.{Net}
 use Rattle.nets.specs.declared.Draft.{Draft}
 use Rattle.reading.specs.ReadingLaws.{goes_on}
 use Rattle.reading.specs.SoundLaws.{behind}
-use Rattle.reading.specs.Reads.{placed, closes_net, closed_by}
+use Rattle.reading.specs.Reads.{placed, closed_by}
 use Rattle.reading.specs.Underway.{Underway, next_other, says_refused, placed_ok, placed_err}
 use Rattle.reading.specs.Cells.{Through}
 use Rattle.reading.specs.declared.Cells.{Cells}
 
--- the draft is of the net that is open, where one is
-abbrev pub Drafting : Option Draft → List Listed → Type 0
-Drafting d [] = d ≡ None
-Drafting d (t ∷ ts) = d ≡ Some (drafted t)
+-- the draft is of the net that is open; while none is, it may be any
+abbrev pub Drafting : Draft → List Listed → Type 0
+Drafting d [] = Unit {0}
+Drafting d (t ∷ ts) = d ≡ drafted t
 
 -- a pin that the draft takes goes to the open net
-pub pin_drafted : (d d' : Draft) (p : Pin) → ((t : Listed) → d ≡ drafted t → d' ≡ drafted (with_pin_of t p)) → (ts : List Listed)
-    → Drafting (Some d) ts → Drafting (Some d') (with_pin p ts)
+pin_drafted : (d d' : Draft) (p : Pin) → ((t : Listed) → d ≡ drafted t → d' ≡ drafted (with_pin_of t p)) → (ts : List Listed) → Drafting d ts
+    → Drafting d' (with_pin p ts)
 unfolding with_pin with_pin_of
-pin_drafted d d' p h [] e = cc
-pin_drafted d d' p h (t ∷ ts) e = ap Some (h t cc)
-
--- without an open net there is none that a pin could go to
-pub no_pin_drafted : (p : Pin) (ts : List Listed) → Drafting None ts → Drafting None (with_pin p ts)
-unfolding with_pin
-no_pin_drafted p [] e = e
-no_pin_drafted p (t ∷ ts) e = cc
-
--- a draft is kept only while a net is open
-pub drafting_open : (d : Option Draft) (ts : List Listed) → Drafting d ts → IfSome d (λ x. 1 ≤ length ts)
-drafting_open None ts e = tt
-drafting_open (Some d) [] e = cc
-drafting_open (Some d) (t ∷ ts) e = omega arith
+pin_drafted d d' p h [] e = tt
+pin_drafted d d' p h (t ∷ ts) e = h t e
 
 -- the list begins with what is kept of these nets, of which the last one opened stands first
 abbrev pub Stored : ℕ → List Net → List Listed → Type 0
 Stored W ns ts = take (length ts) ns ≡ map (summary W) (reverse ts)
 
 -- what the loop over the records of the nets keeps: the open net is drafted, and those behind it are stored
-pub record InNets (s ws : List ℕ) (sum : ℕ) (p : Progress) (t : List ℕ) (d : Option Draft) (ns : List Net) (c : Reading) : Type 0 where
+pub record InNets (s ws : List ℕ) (sum : ℕ) (p : Progress) (t : List ℕ) (d : Draft) (ns : List Net) (c : Reading) : Type 0 where
   pub underway : Underway s ws sum p t c
   pub started : c.head.started ≡ true
   pub all_cells : length c.widths ≡ c.head.cells
@@ -83,16 +71,16 @@ cut_widths s ws sum p t c u all =
       record { shows = shows_widths u.shows (take p.cells ws) same; good = u.good; adds = u.adds; room = omega (arith, u.shows.cells); same = u.same },
     )
 
-pub first_nets : (s ws : List ℕ) (h : Cells) (ns : List Net) (c : Reading) → Through s ws h c → min (u16_at s 8) most_nets ≤ length ns
-    → InNets s (take h.progress.cells ws) h.sum h.progress h.rest.now None ns c
-first_nets s ws h ns c q room =
+pub first_nets : (s ws : List ℕ) (h : Cells) (d : Draft) (ns : List Net) (c : Reading) → Through s ws h c → min (u16_at s 8) most_nets ≤ length ns
+    → InNets s (take h.progress.cells ws) h.sum h.progress h.rest.now d ns c
+first_nets s ws h d ns c q room =
     let cut = cut_widths s ws h.sum h.progress h.rest.now c q.underway q.all_cells in
     record {
       underway = cut.1;
       started = q.started;
       all_cells = q.all_cells;
       exact = cut.0;
-      drafting = rw q.none refl;
+      drafting = rw q.none tt;
       stored = rw q.none refl;
       slots = omega (arith, q.said);
     }
@@ -106,40 +94,36 @@ stored_open W ns t ts h l =
     take-suc-set ns (length ts) (closed W (drafted t)) l
     ∙ rw (h, reverse-cons, map-append, closed_summary W t) refl
 
--- a record that closes a net leaves all nets stored
-closed_stored : (p : Progress) (r : Record) (d : Option Draft) (ns : List Net) (ts : List Listed) → closes_net r ≡ true → p.opened ≡ length ts
-    → length ts ≤ length ns → Drafting d ts → Stored p.width ns (behind ts) → Stored p.width (closed_by r p d ns) ts
-closed_stored p r d ns [] closing long few draft h = refl
-closed_stored p r d ns (t ∷ ts) closing long few draft h =
+-- once the open net is closed, all nets are stored
+closed_stored : (p : Progress) (d : Draft) (ns : List Net) (ts : List Listed) → p.opened ≡ length ts → length ts ≤ length ns → Drafting d ts
+    → Stored p.width ns (behind ts) → Stored p.width (closed_by p d ns) ts
+closed_stored p d ns [] long few draft h = refl
+closed_stored p d ns (t ∷ ts) long few draft h =
     let at : p.opened - 1 ≡ length ts = omega arith in
-    rw (draft, closing, at) (stored_open p.width ns t ts h (omega arith))
+    rw (draft, lt-ltb 0 p.opened (omega arith), at) (stored_open p.width ns t ts h (omega arith))
 
--- any other leaves the list as it is
-kept_by : (p : Progress) (r : Record) (d : Option Draft) (ns : List Net) → closes_net r ≡ false → closed_by r p d ns ≡ ns
-kept_by p r None ns kept = refl
-kept_by p r (Some d) ns kept = rw kept refl
-
--- the list is as long as before, whether the record closes a net or not
-closed_length : (p : Progress) (r : Record) (d : Option Draft) (ns : List Net) → length (closed_by r p d ns) ≡ length ns
-closed_length p r None ns = refl
-closed_length p r (Some d) ns = go (closes_net r) refl
+-- the list is as long as before, whether a net is open or not
+closed_length : (p : Progress) (d : Draft) (ns : List Net) → length (closed_by p d ns) ≡ length ns
+closed_length p d ns = go (ltb 0 p.opened)
   where
-    go : (b : Bool) → closes_net r ≡ b → length (closed_by r p (Some d) ns) ≡ length ns
-    go true e = rw (e, length-set) refl
-    go false e = rw e refl
-
--- a record that goes on among the nets changes only the nets, and leaves all but the open one stored
-pub record Opens (c : Reading) (ns : List Net) (r : Record) : Type 0 where
-  pub head : (after c r).head ≡ c.head
-  pub widths : (after c r).widths ≡ c.widths
-  pub stored : Stored c.head.width ns (behind (after c r).nets)
+    go : (b : Bool) → length (cond b (set ns (p.opened - 1) (closed p.width d)) ns) ≡ length ns
+    go true = rw length-set refl
+    go false = refl
 
 pin_behind_stored : (W : ℕ) (ns : List Net) (p : Pin) (ts : List Listed) → Stored W ns (behind ts) → Stored W ns (behind (with_pin p ts))
 unfolding with_pin
 pin_behind_stored W ns p [] h = h
 pin_behind_stored W ns p (t ∷ ts) h = h
 
-module _ (s ws : List ℕ) (sum : ℕ) (p : Progress) (t : List ℕ) (d : Option Draft) (ns : List Net) (c : Reading) (i : InNets s ws sum p t d ns c) where
+-- a record of a net changes only the nets: the open net is drafted, and those behind it are stored
+record Opens (c : Reading) (r : Record) (d : Draft) (ns : List Net) : Type 0 where
+  pub head : (after c r).head ≡ c.head
+  pub widths : (after c r).widths ≡ c.widths
+  pub drafting : Drafting d (after c r).nets
+  pub stored : Stored c.head.width ns (behind (after c r).nets)
+  pub slots : c.head.nets ≤ length ns
+
+module _ (s ws : List ℕ) (sum : ℕ) (p : Progress) (t : List ℕ) (d : Draft) (ns : List Net) (c : Reading) (i : InNets s ws sum p t d ns c) where
   pub at_nets : AtNets c
   at_nets = record { started = i.started; all_cells = i.all_cells }
 
@@ -157,45 +141,73 @@ module _ (s ws : List ℕ) (sum : ℕ) (p : Progress) (t : List ℕ) (d : Option
         says_refused s ws sum p t c i.underway f (sym stands_next ∙ h.0, h.1)
 
   -- there is room for every net that is opened
-  pub slot : (p.width ≤ widest) × (p.opened ≤ length ns) × IfSome d (λ x. 1 ≤ p.opened)
+  pub slot : (p.width ≤ widest) × (p.opened ≤ length ns)
   slot =
-      let u = i.underway in (
-        omega (arith, u.shows.width, u.good.wide),
-        omega (arith, u.shows.opened, u.good.within.opened, i.slots),
-        rw u.shows.opened (drafting_open d c.nets i.drafting),
-      )
+      let u = i.underway in
+      (omega (arith, u.shows.width, u.good.wide), omega (arith, u.shows.opened, u.good.within.opened, i.slots))
 
-  pub all_stored : (r : Record) → closes_net r ≡ true → Stored c.head.width (closed_by r p d ns) c.nets
-  all_stored r closing =
+  pub all_stored : Stored c.head.width (closed_by p d ns) c.nets
+  all_stored =
       let u = i.underway in
       rw (← u.shows.width)
-      (closed_stored p r d ns c.nets closing u.shows.opened (omega (arith, u.good.within.opened, i.slots)) i.drafting (rw u.shows.width i.stored))
+      (closed_stored p d ns c.nets u.shows.opened (omega (arith, u.good.within.opened, i.slots)) i.drafting (rw u.shows.width i.stored))
 
-  pub closed_slots : (r : Record) → c.head.nets ≤ length (closed_by r p d ns)
-  closed_slots r = omega (arith, closed_length p r d ns, i.slots)
-
-  opens : (r : Record) → May c r → goes_on r ≡ true → Opens c (closed_by r p d ns) r
-  unfolding after
-  opens (Rw w n m) h g = absurd (false≢true (sym h.first ∙ i.started))
-  opens (Ce w) h g = absurd (omega (arith, h.fewer, i.all_cells))
-  opens (Nt w) h g = record { head = refl; widths = refl; stored = all_stored (Nt w) refl }
-  opens (Fp x) h g =
-      record { head = refl; widths = refl; stored = rw (kept_by p (Fp x) d ns refl) (pin_behind_stored c.head.width ns (fixed x) c.nets i.stored) }
-  opens (Mp k o) h g =
-      record { head = refl; widths = refl; stored = rw (kept_by p (Mp k o) d ns refl) (pin_behind_stored c.head.width ns (on k o) c.nets i.stored) }
-  opens En h g = absurd (false≢true g)
-
-  -- a record that goes on carries the reading on, where what takes it takes it for the open net
-  pub more_nets : (r : Record) → record_at c t ≡ Ok r → goes_on r ≡ true → (d' : Option Draft) → Drafting d' (after c r).nets
-      → InNets s ws sum (progress_after p r) (drop (takes r) t) d' (closed_by r p d ns) (after c r)
-  more_nets r is going d' draft =
-      let o = opens r (answers_may c t r is) going in
+  more : (r : Record) → record_at c t ≡ Ok r → goes_on r ≡ true → (d' : Draft) (ns' : List Net) → Opens c r d' ns'
+      → InNets s ws sum (progress_after p r) (drop (takes r) t) d' ns' (after c r)
+  more r is going d' ns' o =
       record {
         underway = next_other s ws sum p t c i.underway r is going o.widths (rw o.head i.underway.room);
         started = rw o.head i.started;
         all_cells = rw (o.head, o.widths) i.all_cells;
         exact = rw o.widths i.exact;
-        drafting = draft;
+        drafting = o.drafting;
         stored = rw o.head o.stored;
-        slots = rw o.head (closed_slots r);
+        slots = rw o.head o.slots;
       }
+
+  -- NT closes the net before, and opens one without pins
+  pub more_nets : (w : ℕ) → record_at c t ≡ Ok (Nt w)
+      → InNets s ws sum (progress_after p (Nt w)) (drop (takes (Nt w)) t) (drafted (record { weight = w; pins = [] })) (closed_by p d ns) (after c (Nt w))
+  unfolding after
+  more_nets w is =
+      more (Nt w) is refl (drafted (record { weight = w; pins = [] })) (closed_by p d ns)
+      (record { head = refl; widths = refl; drafting = refl; stored = all_stored; slots = omega (arith, closed_length p d ns, i.slots) })
+
+  -- FP and MP go to the open net, where what takes the pin takes it
+  pub more_fixed : (x : ℤ) → record_at c t ≡ Ok (Fp x) → (d' : Draft) → ((u : Listed) → d ≡ drafted u → d' ≡ drafted (with_pin_of u (fixed x)))
+      → InNets s ws sum (progress_after p (Fp x)) (drop (takes (Fp x)) t) d' ns (after c (Fp x))
+  unfolding after
+  more_fixed x is d' h =
+      more (Fp x) is refl d' ns
+      (record {
+        head = refl;
+        widths = refl;
+        drafting = pin_drafted d d' (fixed x) h c.nets i.drafting;
+        stored = pin_behind_stored c.head.width ns (fixed x) c.nets i.stored;
+        slots = i.slots;
+      })
+
+  pub more_on : (k o : ℕ) → record_at c t ≡ Ok (Mp k o) → (d' : Draft) → ((u : Listed) → d ≡ drafted u → d' ≡ drafted (with_pin_of u (on k o)))
+      → InNets s ws sum (progress_after p (Mp k o)) (drop (takes (Mp k o)) t) d' ns (after c (Mp k o))
+  unfolding after
+  more_on k o is d' h =
+      more (Mp k o) is refl d' ns
+      (record {
+        head = refl;
+        widths = refl;
+        drafting = pin_drafted d d' (on k o) h c.nets i.drafting;
+        stored = pin_behind_stored c.head.width ns (on k o) c.nets i.stored;
+        slots = i.slots;
+      })
+
+  -- any other record is EN
+  pub last_is_end : (r : Record) → record_at c t ≡ Ok r → ((w : ℕ) → r ≡ Nt w → ⊥) → ((x : ℤ) → r ≡ Fp x → ⊥) → ((k o : ℕ) → r ≡ Mp k o → ⊥) → r ≡ En
+  last_is_end r is = go r (answers_may c t r is)
+    where
+      go : (r : Record) → May c r → ((w : ℕ) → r ≡ Nt w → ⊥) → ((x : ℤ) → r ≡ Fp x → ⊥) → ((k o : ℕ) → r ≡ Mp k o → ⊥) → r ≡ En
+      go (Rw w n m) h f g e = absurd (false≢true (sym h.first ∙ i.started))
+      go (Ce w) h f g e = absurd (omega (arith, h.fewer, i.all_cells))
+      go (Nt w) h f g e = absurd (f w refl)
+      go (Fp x) h f g e = absurd (g x refl)
+      go (Mp k o) h f g e = absurd (e k o refl)
+      go En h f g e = refl

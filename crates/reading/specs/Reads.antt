@@ -1,14 +1,12 @@
 -- What reading a row answers, beside what its definition says: a row that is taken, with its widths and the summaries of its nets; or the
 -- refusal and its place, and nothing else.
-use Rattle.std.specs.Prelude.{ℕ, ◌-◌, ◌≤◌, min, ◌≡◌, Bool, true, false, List, map, set, Option, Some, None, Result, Ok, Err}
+use Rattle.std.specs.Prelude.{ℕ, ◌-◌, ◌≤◌, min, ◌≡◌, List, map, set, cond, ltb, Result, Ok, Err}
 use Rattle.numbers.specs.Bytes.{u16_at}
 use Rattle.rules.specs.Sizes.{most_cells, most_nets}
 use Rattle.rules.specs.Row.{Row}
 use Rattle.rules.specs.Reading.{Read, taken, refused}
 use Rattle.rules.specs.declared.Refusal.{Refusal}
 use Rattle.rules.specs.declared.Refused.{Refused}
-use Rattle.rules.specs.declared.Record.{Record}
-use Rattle.rules.specs.declared.Record.TheVariants.{Rw, Ce, Nt, Fp, Mp, En}
 use Rattle.records.specs.declared.Progress.{Progress}
 use Rattle.nets.specs.Summary.{summary, closed}
 use Rattle.nets.specs.declared.Net.{Net}
@@ -39,20 +37,6 @@ abbrev pub placed : {A : Type 0} → ℕ → Result A Refusal → Result A Refus
 placed place (Ok x) = Ok x
 placed place (Err q) = Err (record { refusal = q; place = place })
 
--- the next NT closes the open net, and so does EN
-abbrev pub closes_net : Record → Bool
-closes_net (Rw w n m) = false
-closes_net (Ce w) = false
-closes_net (Nt w) = true
-closes_net (Fp x) = false
-closes_net (Mp i o) = false
-closes_net En = true
-
--- then what is kept of it goes to its place
-abbrev pub stored_by : Bool → Progress → Draft → List Net → List Net
-stored_by true p d nets = set nets (p.opened - 1) (closed p.width d)
-stored_by false p d nets = nets
-
-abbrev pub closed_by : Record → Progress → Option Draft → List Net → List Net
-closed_by r p (Some d) nets = stored_by (closes_net r) p d nets
-closed_by r p None nets = nets
+-- what is kept of a net that is closed goes to its place; while no net is open there is none
+abbrev pub closed_by : Progress → Draft → List Net → List Net
+closed_by p d ns = cond (ltb 0 p.opened) (set ns (p.opened - 1) (closed p.width d)) ns

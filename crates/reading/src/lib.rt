@@ -2,14 +2,14 @@
 // tail (3) and the widths (6). Of a net only its summary is kept, and put into a lent list when the next NT or EN closes it.
 #![tactic(auto)]
 
-ghost use Rattle.std.specs.Prelude.{IfOk, ◌≡◌, List, ℕ, ◌≤◌, min, length, IfSome};
+ghost use Rattle.std.specs.Prelude.{IfOk, ◌≡◌, List, ℕ, ◌≤◌, min, length, []};
 ghost use Rattle.rules.specs.Sizes.{widest, most_cells, most_nets};
 ghost use Rattle.rules.specs.Records.{Reading};
-ghost use Rattle.rules.specs.Reading.{after, read_row};
-ghost use Rattle.reading.specs.Reads.{closes_net, closed_by, placed, Roomy, Reads};
+ghost use Rattle.rules.specs.Reading.{read_row};
+ghost use Rattle.reading.specs.Reads.{closed_by, placed, Roomy, Reads};
 ghost use Rattle.numbers.specs.Bytes.{u16_at};
 ghost use Rattle.reading.specs.Cells.{FillsBy};
-ghost use Rattle.reading.specs.Nets.{Drafting};
+ghost use Rattle.nets.specs.Summary.{drafted};
 ghost use Rattle.reading.specs.Ending.{Closing, EndsBy};
 
 use nets::{Draft, Net};
@@ -70,19 +70,6 @@ fn read_cells<'a>(s: &'a [u8], widths: &mut [u32]) -> Result<Cells<'a>, Refused>
     })
 }
 
-// What is kept of the open net, if one is open, after one record more.
-#[tactic(auto, using(crate::specs::Nets::no_pin_drafted), unfolding(rules::specs::Reading::after))]
-fn drafted_by(d: Option<Draft>, r: Record) -> Option<Draft>
-    ensures { (c : Reading) → Drafting d c.nets → Drafting result (after c r).nets }
-{
-    match (r, d) {
-        (Record::Nt(w), _) => Some(Draft::new(w)),
-        (Record::Fp(x), Some(draft)) => Some(draft.with_fixed(x)),
-        (Record::Mp(i, o), Some(draft)) => Some(draft.with_pin(i, o)),
-        _ => d,
-    }
-}
-
 // EN, with the tail (3) and the widths (6).
 fn ended(sum: u32, p: Progress, t: &[u8]) -> Result<(), Refused>
     requires { (s : List ℕ) × ((c : Reading) × Closing s sum p t.now c) }
@@ -103,23 +90,23 @@ fn ended(sum: u32, p: Progress, t: &[u8]) -> Result<(), Refused>
     Ok(())
 }
 
-// Is a net closed before this record? By the next NT, or by EN.
-fn closes(r: Record) -> bool
-    ensures { result ≡ closes_net r }
+// A net is closed: what is kept of it goes to its place in the list. Before the first NT there is none.
+fn close(p: Progress, draft: Draft, nets: &mut [Net])
+    requires { (p.width ≤ widest) × (p.opened ≤ length nets.old) }
+    ensures { nets.new ≡ closed_by p draft nets.old }
 {
-    matches!(r, Record::Nt(_) | Record::En)
+    if 0 < p.opened {
+        nets[p.opened - 1] = draft.closed(p.width);
+    }
 }
 
-// A record that closes a net: what is kept of that net goes to its place in the list.
-fn close(r: Record, p: Progress, draft: Option<Draft>, nets: &mut [Net])
-    requires { (p.width ≤ widest) × (p.opened ≤ length nets.old) × IfSome draft (λ d. 1 ≤ p.opened) }
-    ensures { nets.new ≡ closed_by r p draft nets.old }
+// NT: the net before is closed, and one is open.
+fn reopen(weight: u32, p: Progress, draft: Draft, nets: &mut [Net]) -> Draft
+    requires { (p.width ≤ widest) × (p.opened ≤ length nets.old) }
+    ensures { (nets.new ≡ closed_by p draft nets.old) × (result ≡ drafted (record { weight = weight; pins = [] })) }
 {
-    if let Some(draft) = draft {
-        if closes(r) {
-            nets[p.opened - 1] = draft.closed(p.width);
-        }
-    }
+    close(p, draft, nets);
+    Draft::new(weight)
 }
 
 // The row that some bytes are, or why they are none: RW and the cells, then the records of the nets up to the one that none follows.
@@ -136,19 +123,24 @@ pub fn read_row<'a>(
     let mut p = cells.progress;
     let widths = &widths[..p.cells];
     let mut t = cells.rest;
-    let mut draft = None;
+    let mut draft = Draft::new(0);
     loop {
         let r = placed(p, records::read_in_nets(p, widths, t))?;
-        close(r, p, draft, nets);
-        if let Record::En = r {
-            ended(cells.sum, p, t)?;
-            return Ok(Sheet {
-                width: p.width,
-                widths,
-                nets: &nets[..p.nets],
-            });
+        match r {
+            Record::Nt(weight) => draft = reopen(weight, p, draft, nets),
+            Record::Fp(x) => draft = draft.with_fixed(x),
+            Record::Mp(cell, offset) => draft = draft.with_pin(cell, offset),
+            // EN: RW and CE come before the nets.
+            _ => {
+                close(p, draft, nets);
+                ended(cells.sum, p, t)?;
+                return Ok(Sheet {
+                    width: p.width,
+                    widths,
+                    nets: &nets[..p.nets],
+                });
+            }
         }
-        draft = drafted_by(draft, r);
         p = p.after(r);
         t = records::rest(t, r);
     }
