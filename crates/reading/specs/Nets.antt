@@ -174,31 +174,26 @@ module _ (s ws : List ℕ) (sum : ℕ) (p : Progress) (t : List ℕ) (d : Draft)
       (record { head = refl; widths = refl; drafting = refl; stored = all_stored; slots = omega (arith, closed_length p d ns, i.slots) })
 
   -- FP and MP go to the open net, where what takes the pin takes it
+  opens_pin : (r : Record) (q : Pin) → (after c r).head ≡ c.head → (after c r).widths ≡ c.widths → (after c r).nets ≡ with_pin q c.nets → (d' : Draft)
+      → ((u : Listed) → d ≡ drafted u → d' ≡ drafted (with_pin_of u q)) → Opens c r d' ns
+  opens_pin r q head widths nets d' h =
+      record {
+        head = head;
+        widths = widths;
+        drafting = rw nets (pin_drafted d d' q h c.nets i.drafting);
+        stored = rw nets (pin_behind_stored c.head.width ns q c.nets i.stored);
+        slots = i.slots;
+      }
+
   pub more_fixed : (x : ℤ) → record_at c t ≡ Ok (Fp x) → (d' : Draft) → ((u : Listed) → d ≡ drafted u → d' ≡ drafted (with_pin_of u (fixed x)))
       → InNets s ws sum (progress_after p (Fp x)) (drop (takes (Fp x)) t) d' ns (after c (Fp x))
   unfolding after
-  more_fixed x is d' h =
-      more (Fp x) is refl d' ns
-      (record {
-        head = refl;
-        widths = refl;
-        drafting = pin_drafted d d' (fixed x) h c.nets i.drafting;
-        stored = pin_behind_stored c.head.width ns (fixed x) c.nets i.stored;
-        slots = i.slots;
-      })
+  more_fixed x is d' h = more (Fp x) is refl d' ns (opens_pin (Fp x) (fixed x) refl refl refl d' h)
 
   pub more_on : (k o : ℕ) → record_at c t ≡ Ok (Mp k o) → (d' : Draft) → ((u : Listed) → d ≡ drafted u → d' ≡ drafted (with_pin_of u (on k o)))
       → InNets s ws sum (progress_after p (Mp k o)) (drop (takes (Mp k o)) t) d' ns (after c (Mp k o))
   unfolding after
-  more_on k o is d' h =
-      more (Mp k o) is refl d' ns
-      (record {
-        head = refl;
-        widths = refl;
-        drafting = pin_drafted d d' (on k o) h c.nets i.drafting;
-        stored = pin_behind_stored c.head.width ns (on k o) c.nets i.stored;
-        slots = i.slots;
-      })
+  more_on k o is d' h = more (Mp k o) is refl d' ns (opens_pin (Mp k o) (on k o) refl refl refl d' h)
 
   -- any other record is EN
   pub last_is_end : (r : Record) → record_at c t ≡ Ok r → ((w : ℕ) → r ≡ Nt w → ⊥) → ((x : ℤ) → r ≡ Fp x → ⊥) → ((k o : ℕ) → r ≡ Mp k o → ⊥) → r ≡ En

@@ -6,7 +6,7 @@ use Rattle.rules.specs.Records.{record_at}
 use Rattle.rules.specs.Reading.{after}
 use Rattle.rules.specs.declared.Record.TheVariants.{Nt, Fp, Mp}
 use Rattle.reading.specs.ReadingLaws.{record_fits, shorter}
-use Rattle.reading.specs.Nets.{first_nets, net_read, net_refused, more_nets, more_fixed, more_on, last_is_end}
+use Rattle.reading.specs.Nets.{net_read, net_refused, more_nets, more_fixed, more_on, last_is_end}
 use Rattle.reading.specs.Ending.{Closing, reads_taken, reads_refused}
 use Rattle.reading.proofs.Exits.{same_refused}
 use Rattle.reading.proofs.read_row.Goals.{In_ok-r, In_default, After-after-p, in-Nt, in-Fp, in-Mp}
@@ -16,7 +16,7 @@ use Rattle.reading.proofs.read_row.Goals as goal
 turn : (c : In_ok-r) → record_at c.loop-r.invariant.reading c.loop-r.t.now ≡ Ok c.in_ok-r.r
 turn c = net_read _ _ _ _ _ _ _ _ c.loop-r.invariant.stands _ c.read_in_nets.ensures c.in_ok-r.r c.in_ok-r.ensures
 
--- it goes on
+-- as it stands where the arms of the nets meet
 carried : (c : After-after-p) → record_at c.loop-r.invariant.reading c.loop-r.t.now ≡ Ok c.in_ok-r.r
     → record_at c.loop-r.invariant.reading c.loop-r.t.now ≡ Ok c.match-r.r
 carried c is =
@@ -57,12 +57,6 @@ loop-r-preserved c =
             (more_on _ _ _ _ _ _ _ _ i.stands w.in-Mp.cell w.in-Mp.offset (rw w.in-Mp.is at is) _ w.with_pin-draft.ensures);
       }
     ]
-
-pub loop-r-init : goal.loop-r-init
-loop-r-init c =
-    let h = c.in_ok-cells in
-    let q = h.ensures.0 in
-    record { reading = q.0; stands = first_nets _ _ h.cells _ _ q.0 q.1 c.requires.for_nets }
 
 pub returns-in_err-r-clause-reads : goal.returns-in_err-r-clause-reads
 returns-in_err-r-clause-reads c =
