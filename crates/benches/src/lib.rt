@@ -17,7 +17,7 @@ use layout::Place;
 use rules::{BENCH_SIZE, Carried};
 
 // What saved bytes in form say: how many cells are opened, whether a clump is in hand, how many clumps there are, and the changes carried. The cells and
-// left edge of each clump, the one in hand last, go to a lent list.
+// left edge of each clump, the one in hand last, go to a lent list. `held` is a byte of the bench, and stands for itself.
 #[derive(Clone, Copy)]
 pub struct Saved {
     pub opened: usize,

@@ -35,6 +35,7 @@ pub enum Next {
     Settles(Kept),
 }
 
+// The settled clumps are the first `settled` of a lent list: fixed memory, and the work goes by value from step to step.
 impl Bench {
     // The clump in hand with its changes, up to its right limit, in a heap.
     fn filled(self, row: Layout<'_>, keys: &mut [u32]) -> Self

@@ -69,6 +69,7 @@ impl Net {
         self.fl.min((p + self.onleft) as i32)
     }
 
+    // Not one function with the left end: which side it is would be told by a flag.
     fn high_end(self, q: u32) -> i32
         requires { q + self.onright ≤ 2 * widest }
         ensures { result ≡ high_at self q }

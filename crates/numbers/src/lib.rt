@@ -7,7 +7,7 @@ ghost use Rattle.std.specs.Prelude.{◌≡◌, ◌++◌, ◌+◌, ◌≤◌, len
 ghost use Rattle.numbers.specs.Bytes.{u16_at, u32_at, i32_at, u16_bytes, u32_bytes};
 ghost use Rattle.numbers.specs.Log.{whole_log};
 
-// One call of std's own method each: a trait over the three types would hold these same lines.
+// One call of std's own method each: a trait over the three types would hold these same lines, and each caller would still name the type.
 pub fn u16_at(s: &[u8], k: usize) -> u16
     requires { k + 2 ≤ length s.now }
     ensures { result ≡ u16_at s.now k }
@@ -29,6 +29,7 @@ pub fn i32_at(s: &[u8], k: usize) -> i32
     i32::from_le_bytes([s[k], s[k + 1], s[k + 2], s[k + 3]])
 }
 
+// And back, for the two types that are written.
 pub fn put_u16(b: &mut [u8], k: usize, x: u16)
     requires { k + 2 ≤ length b.old }
     ensures { b.new ≡ take k b.old ++ (u16_bytes x ++ drop (k + 2) b.old) }

@@ -20,7 +20,7 @@ use layout::{Layout, Place, lay_out, lay_starts};
 use reading::Sheet;
 use rules::{BENCH_SIZE, Change, Refusal, Steps};
 
-// What a slice answers: how many steps it took and whether all is done.
+// What a slice answers: how many steps it took and whether all is done. Both are told in any case: the one does not depend on the other.
 #[derive(Clone, Copy)]
 pub struct Sliced {
     pub steps: Steps,
