@@ -2,7 +2,7 @@
 // A thin program over the library: all that it prints comes from the proved calls. What is read and written is tested, not proved.
 #![tactic(auto)]
 
-ghost use Rattle.std.specs.Prelude.{◌≡◌, ◌*◌, ◌≤◌, length};
+ghost use Rattle.std.specs.Prelude.{◌*◌, ◌≤◌, length};
 ghost use Rattle.rules.specs.Sizes.{most_cells};
 
 use rules::{BENCH_SIZE, MOST_CELLS};
@@ -11,6 +11,11 @@ use std::{fmt, io};
 
 // No row is longer than this: what comes after is not read.
 const MOST_BYTES: u64 = 65536;
+
+// From here on a call's answer is a refusal: this, and so many times the second number, and its place.
+const REFUSALS: u64 = 1 << 63;
+
+const PLACES: u64 = 1 << 32;
 
 // A refusal by its number, and its place.
 #[derive(Clone, Copy)]
@@ -25,14 +30,14 @@ impl fmt::Display for Refused {
     }
 }
 
-// A call's one u64 taken apart: from 2^63 on it is a refusal.
+// A call's one u64 taken apart, as C has to.
 fn taken(answer: u64) -> Result<u64, Refused> {
-    if answer < 9223372036854775808 {
+    if answer < REFUSALS {
         return Ok(answer);
     }
     Err(Refused {
-        number: answer / 4294967296 % 2147483648,
-        place: answer % 4294967296,
+        number: (answer - REFUSALS) / PLACES,
+        place: answer % PLACES,
     })
 }
 
@@ -56,10 +61,10 @@ impl fmt::Display for Done {
 }
 
 // Cell and position, a line each.
-fn print_cells(rt: &impl Print, sites: &[u8], cells: usize) -> io::Result<()>
-    requires { (4 * cells ≤ length sites.now) × (cells ≤ most_cells) }
+fn print_cells(rt: &impl Print, sites: &[u8]) -> io::Result<()>
+    requires { length sites.now ≤ 4 * most_cells }
 {
-    for i in 0..cells {
+    for i in 0..sites.len() / 4 {
         println!(rt; "{i} {}", numbers::u32_at(sites, 4 * i))?;
     }
     Ok(())
@@ -71,7 +76,7 @@ fn run(row: &[u8], sites: &mut [u8]) -> Done
 {
     let mut bench = [0; BENCH_SIZE];
     lugsheet::lugsheet_fresh(&mut bench);
-    let sliced = lugsheet::lugsheet_slice(row, &mut bench, 4294967295);
+    let sliced = lugsheet::lugsheet_slice(row, &mut bench, u32::MAX);
     Done {
         netlength: lugsheet::lugsheet_placement(row, &bench, sites),
         steps: sliced / 2,
@@ -86,7 +91,7 @@ fn place(rt: &impl Print, row: &[u8]) -> io::Result<()> {
         Ok(cells) => cells,
         Err(refused) => return println!(rt; "{refused}"),
     };
-    if cells > 256 || row.len() < 10 {
+    if cells > MOST_CELLS as u64 || row.len() < 10 {
         return Ok(());
     }
     let cells = cells as usize;
@@ -94,7 +99,7 @@ fn place(rt: &impl Print, row: &[u8]) -> io::Result<()> {
     let sites = &mut sites[..4 * cells];
     let done = run(row, sites);
     println!(rt; "{done}")?;
-    print_cells(rt, sites, cells)
+    print_cells(rt, sites)
 }
 
 fn main(rt: HostRuntime) -> io::Result<()> {
