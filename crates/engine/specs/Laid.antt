@@ -46,9 +46,9 @@ seen row = layout_of row.places.now row.changes.now
 
 -- a row that is laid out in these lists, and that has room for its cells
 pub record Laid (R : Row) (y : Layout) : Type 0 where
-  pub starts_long : length y.starts ≡ length R.widths + 1
-  pub bounds_long : length y.bounds ≡ length R.widths + 1
-  pub needs_long : length y.needs ≡ length R.widths + 1
+  pub starts_long : length R.widths + 1 ≤ length y.starts
+  pub bounds_long : length R.widths + 1 ≤ length y.bounds
+  pub needs_long : length R.widths + 1 ≤ length y.needs
   pub start_at : (i : ℕ) → i ≤ length R.widths → get_or y.starts i 0 ≡ packed R i
   pub bound_at : (i : ℕ) → i ≤ length R.widths → get_or y.bounds i 0 ≡ held_before R i
   pub need_at : (i : ℕ) → i ≤ length R.widths → get_or y.needs i 0 ≡ need_before R i

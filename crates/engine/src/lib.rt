@@ -11,7 +11,7 @@ ghost use Rattle.engine.specs.Laid.{seen};
 ghost use Rattle.engine.specs.Stands.{lists_of};
 ghost use Rattle.engine.specs.Taken.{first_of_last, stand_of_last, HasLast, with_hand, with_opened, with_joined, with_settled, settled_clump};
 ghost use Rattle.engine.specs.Taken.{Makes, MadeAs, Sure, Seeks, FindsAs, meeting_of, Joins, Settles};
-ghost use Rattle.engine.specs.Ready.{Unfinished, StepsAs, Resumes, RemadeAs, Ready, RunsAs, ResumesAs};
+ghost use Rattle.engine.specs.Ready.{Unfinished, StepsAs, Resumes, RemadeAs, Counted, RunsAs, ResumesAs};
 
 use changes::{Clump, Kept, Meeting, Stop, made};
 use layout::Layout;
@@ -153,8 +153,8 @@ impl Bench {
         self.filled(row, keys)
     }
 
-    // What it does next. It joins where the end of the last settled clump, `end`, exceeds r, and settles otherwise, at the larger of that end and l: a walk
-    // down its heap tells, from the cap to where that clump stands, at `last`.
+    // What it does next. It joins where the end of the last settled clump exceeds r, and settles otherwise, at the larger of that end and l: a walk down
+    // its heap tells, from the cap to where that clump stands, at `last`.
     fn next(
         self,
         want: u32,
@@ -239,7 +239,7 @@ pub struct Ran {
 
 // At most `budget` steps, until the bench is finished.
 fn run(from: Bench, budget: u32, row: Layout<'_>, clumps: &mut [Clump], keys: &mut [u32]) -> Ran
-    requires { Ready row.width (seen row) from (lists_of clumps.old keys.old) }
+    requires { Counted row.width (seen row) from (lists_of clumps.old keys.old) }
     ensures { RunsAs budget row.entry.width (seen row.entry) from (lists_of clumps.old keys.old) result (lists_of clumps.new keys.new) }
 {
     let mut bench = from;

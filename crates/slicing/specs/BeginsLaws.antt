@@ -17,7 +17,7 @@ use Rattle.layout.specs.Laid.{Lays, LaidOut}
 use Rattle.engine.specs.Laid.{layout_of}
 use Rattle.engine.specs.Stands.{lists_of}
 use Rattle.slicing.specs.Begun.{Begins, Lent}
-use Rattle.slicing.specs.LaidLaws.{told, nets_ready, near_places, row_laid, row_roomy}
+use Rattle.slicing.specs.LaidLaws.{told, nets_ready, near_places, row_cut, row_laid, row_roomy}
 
 -- the first of blank places are blank
 blank_first : {cells : ℕ} (xs : List ℕ) → Blank cells xs → Blank cells (take (cells + 1) xs)
@@ -74,6 +74,7 @@ module _ {width : ℕ} {widths : List ℕ} {nets : List Net} {R : Row} (holds : 
           wide = holds.width_is;
           form = loaded.0;
           tells = loaded.1;
+          cut = row_cut holds ps'' cs' (l ∙ s.many);
           laid = row_laid holds ps'' cs' (l ∙ s.many) places laid.held laid.needed laid.laid;
           roomy = row_roomy holds clumps' keys (omega (arith, lent.clumps_long)) lent.keys_long;
         }

@@ -13,6 +13,7 @@ use Rattle.layout.specs.Columns.{bounds_of, needs_of}
 use Rattle.layout.specs.Shared.{Blank}
 use Rattle.engine.specs.declared.Bench.{Bench}
 use Rattle.engine.specs.Laid.{Layout, Laid}
+use Rattle.engine.specs.Ready.{Cut}
 use Rattle.engine.specs.Stands.{Lists, Roomy}
 
 -- nothing is kept of any changes yet
@@ -35,6 +36,7 @@ pub record Begins (R : Row) (s : List ℕ) (saved : Saved) (width : ℕ) (y : La
   pub wide : width ≡ R.width
   pub form : in_form R s ≡ true
   pub tells : Tells s ls.cells ls.edges saved
+  pub cut : Cut R y
   pub laid : Laid R y
   pub roomy : Roomy R ls
 

@@ -29,6 +29,7 @@ use Rattle.layout.specs.Shared.{Held, Needed, Places}
 use Rattle.layout.specs.Laid.{Laid as Spread}
 use Rattle.layout.specs.RowLaws.{ready_of_row, held_of_row, needed_of_row, laid_of_row, places_of_row, places_near, run_part, run_weighed}
 use Rattle.engine.specs.Laid.{held_before, held_nets, need_before, layout_of, Laid}
+use Rattle.engine.specs.Ready.{Cut}
 use Rattle.engine.specs.Stands.{lists_of, Roomy}
 
 every_in {ℓ} : {A : Type ℓ} (P : A → Type 0) (xs : List A) → Every P xs → (x : A) → In x xs → P x
@@ -75,6 +76,9 @@ module _ {width : ℕ} {widths : List ℕ} {nets : List Net} {R : Row} (holds : 
 
   -- ---- what the engine is lent
 
+  pub row_cut : (ps : List Place) (cs : List Change) → length ps ≡ length widths + 1 → Cut R (layout_of ps cs)
+  row_cut ps cs long = omega (arith, length-map ps (λ (q : Place). q.start), long, as_many)
+
   module _ (ps : List Place) (cs : List Change) (long : length ps ≡ length widths + 1) (p : Places widths (length widths) (starts_of ps))
       (held : Held (λ i. kept_on i nets) (length widths) (bounds_of ps)) (need : Needed (λ i. kept_on i nets) (length widths) (needs_of ps))
       (spread : Spread (λ i. kept_on i nets) (length widths) (starts_of ps) (bounds_of ps) cs) where
@@ -115,9 +119,9 @@ module _ {width : ℕ} {widths : List ℕ} {nets : List Net} {R : Row} (holds : 
         let last = held_is (length widths) (omega arith) in
         let all : held_before R (length widths) ≡ held_before R (length R.widths) = ap (held_before R) as_many in
         record {
-          starts_long = length-map ps (λ (q : Place). q.start) ∙ places_many;
-          bounds_long = length-map ps (λ (q : Place). q.bound) ∙ places_many;
-          needs_long = length-map ps (λ (q : Place). q.need) ∙ places_many;
+          starts_long = omega (arith, length-map ps (λ (q : Place). q.start), places_many);
+          bounds_long = omega (arith, length-map ps (λ (q : Place). q.bound), places_many);
+          needs_long = omega (arith, length-map ps (λ (q : Place). q.need), places_many);
           start_at = λ i l. (row_places p).sums i (omega (arith, as_many));
           bound_at = λ i l. held_is i (omega (arith, as_many));
           need_at = λ i l. need_is i (omega (arith, as_many));

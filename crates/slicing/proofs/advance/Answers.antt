@@ -33,7 +33,7 @@ module _ (c : After-resume-ran) (R : Row) where
       × (c.resume-ran.result.steps.0 ≡ steps_taken R c.args.budget (bench_of R c.args.bench.now))
       × (length R.widths ≤ length c.resume-ran.new.clumps)
   left_stands t =
-      c.resume-ran.ensures R (bench_of R c.args.bench.now) t.wide t.laid (begun_stands c.begin-from.ensures t) t.roomy
+      c.resume-ran.ensures R (bench_of R c.args.bench.now) t.wide t.cut t.laid (begun_stands c.begin-from.ensures t) t.roomy
 
   saves : Asked → Saves R c.resume-ran.new.clumps
   saves t = record { few = t.laid.few_cells; clumps_long = (left_stands t).2 }
@@ -53,6 +53,7 @@ resume-ran-requires c =
       row = R;
       bench = bench_of R c.args.bench.now;
       width_is = t.wide;
+      cut = t.cut;
       laid = t.laid;
       numbers = begun_stands c.begin-from.ensures t;
       roomy = t.roomy;
@@ -69,7 +70,7 @@ pub returns : goal.returns
 returns c R t =
     let d = (goal.at.returns c).After-resume-ran in
     let l = left_stands d R t in
-    let count : c.cells.result ≡ length R.widths = omega (arith, t.laid.starts_long, starts_length c.args.row.places.now, c.cells.ensures) in
+    let count : c.cells.result ≡ length R.widths = omega (arith, t.cut, starts_length c.args.row.places.now, c.cells.ensures) in
     record {
       steps = l.1;
       ends = c.finished.ensures ∙ finished_is l.0 (saves d R t) c.cells.result count;
