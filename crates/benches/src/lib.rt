@@ -7,7 +7,7 @@ ghost use Rattle.rules.specs.Sizes.{most_cells, part_size};
 ghost use Rattle.rules.specs.Row.{Row};
 ghost use Rattle.rules.specs.Steps.{Bench};
 ghost use Rattle.rules.specs.Bench.{all_zero, bench_bytes, fresh};
-ghost use Rattle.changes.specs.Columns.{cells_of, edges_of};
+ghost use Rattle.changes.specs.Columns.{cells_of, edges_of, sizes_of, sums_of};
 ghost use Rattle.layout.specs.Columns.{starts_of};
 ghost use Rattle.benches.specs.Fits.{has_mark, counts_fit, head_fits, ends_by, cells_fit, edge_fits};
 ghost use Rattle.benches.specs.Saved.{head_of, settled_of, Parted, Told, Loaded, Written, head_bytes};
@@ -126,6 +126,7 @@ fn parts_fit(
     requires opened_le_most_cells { (head.opened ≤ most_cells) × (head.opened + 1 ≤ length places.now) × (head.opened ≤ length clumps.old) }
     ensures parted { Parted head bench.now width (starts_of places.now) (cells_of clumps.new) (edges_of clumps.new) result }
     ensures clumps_len_unchanged { length clumps.new ≡ length clumps.old }
+    ensures others { (sizes_of clumps.new ≡ sizes_of clumps.old) × (sums_of clumps.new ≡ sums_of clumps.old) }
 {
     let settled = head.settled();
     let mut last = 0;
@@ -165,6 +166,7 @@ pub fn load(
     requires places_in_bounds { (1 ≤ length places.now) × (length places.now ≤ most_cells + 1) × (length places.now ≤ length clumps.old + 1) }
     ensures loaded { (R : Row) → Told R width (starts_of places.now) → Loaded R bench.now (cells_of clumps.new) (edges_of clumps.new) result }
     ensures clumps_len_unchanged { length clumps.new ≡ length clumps.old }
+    ensures others { (sizes_of clumps.new ≡ sizes_of clumps.old) × (sums_of clumps.new ≡ sums_of clumps.old) }
 {
     let head = Saved::read(bench);
     if head_fits(bench, places.len() - 1)

@@ -2,6 +2,7 @@
 -- number in each.
 use Rattle.std.specs.Prelude.{◌≡◌, ℕ, List, length, get_or, set}
 use Rattle.std.proofs.Math.ListN.{get_or-map}
+use Rattle.std.proofs.Math.Seq.{map-set_same}
 use Rattle.std.proofs.lemmas.List.{map-set, length-map}
 use Rattle.changes.specs.declared.Clump.{Clump}
 use Rattle.changes.specs.Columns.{cells_of, edges_of, sizes_of, sums_of}
@@ -48,3 +49,10 @@ module _ (cs : List Clump) where
 
       pub sums_set : sums_of (set cs i c) ≡ set (sums_of cs) i c.sum
       sums_set = map-set (λ (d : Clump). d.sum) cs i c
+
+      -- and leaves each number that it had
+      pub sizes_kept : c.size ≡ (get_or cs i no_clump).size → sizes_of (set cs i c) ≡ sizes_of cs
+      sizes_kept e = map-set_same (λ (d : Clump). d.size) cs i c no_clump e
+
+      pub sums_kept : c.sum ≡ (get_or cs i no_clump).sum → sums_of (set cs i c) ≡ sums_of cs
+      sums_kept e = map-set_same (λ (d : Clump). d.sum) cs i c no_clump e

@@ -57,5 +57,8 @@ module _ (ps : List Place) where
       pub bounds_kept : p.bound ≡ (get_or ps i no_place).bound → bounds_of (set ps i p) ≡ bounds_of ps
       bounds_kept e = map-set_same (λ (q : Place). q.bound) ps i p no_place e
 
+      pub slots_kept : p.slot ≡ (get_or ps i no_place).slot → slots_of (set ps i p) ≡ slots_of ps
+      slots_kept e = map-set_same (λ (q : Place). q.slot) ps i p no_place e
+
       pub needs_kept : p.need ≡ (get_or ps i no_place).need → needs_of (set ps i p) ≡ needs_of ps
       needs_kept e = map-set_same (λ (q : Place). q.need) ps i p no_place e

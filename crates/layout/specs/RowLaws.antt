@@ -68,7 +68,7 @@ each_mapped P f (t ∷ ts) h n m =
     ⊎_elim (λ (e : n ≡ f t). subst P (sym e) (h t (here refl)))
     (λ (q : In n (map f ts)). each_mapped P f ts (λ u r. h u (there r)) n q) (cases_cons m)
 
-net_among : (ns : List Net) (k : ℕ) → k < length ns → In (get_or ns k nothing) ns
+pub net_among : (ns : List Net) (k : ℕ) → k < length ns → In (get_or ns k nothing) ns
 net_among [] k h = absurd (omega arith)
 net_among (n ∷ ns) zero h = here refl
 net_among (n ∷ ns) (suc k) h = there (net_among ns k (omega arith))

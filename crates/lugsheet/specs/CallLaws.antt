@@ -9,8 +9,8 @@ use Rattle.rules.specs.Row.{Row}
 use Rattle.rules.specs.Reading.{taken, read_row}
 use Rattle.rules.specs.Length.{legal, overlap, overlap_from}
 use Rattle.rules.specs.Sizes.{bench_size}
-use Rattle.rules.specs.Bench.{bench_bytes, bench_of, fresh, in_form}
-use Rattle.rules.specs.Calls.{Outcome, bit, refuse, check_call, measure_call, measured, sites_from, fresh_call, slice_call, sliced, placement_call}
+use Rattle.rules.specs.Bench.{bench_bytes, fresh, in_form}
+use Rattle.rules.specs.Calls.{Outcome, bit, refuse, check_call, measure_call, sites_from, fresh_call, slice_call, placement_call}
 use Rattle.rules.specs.declared.Refusal.{Refusal}
 use Rattle.rules.specs.declared.Refused.{Refused}
 use Rattle.rules.specs.declared.Refusal.TheVariants.{Room, WrongBench, Overlap}
@@ -26,6 +26,9 @@ use Rattle.slicing.specs.Sliced.{SlicedAs, advanced_outcome}
 use Rattle.placing.specs.PlacedAs.{PlacedAs}
 use Rattle.placing.specs.CallLaws.{call_refused, call_placed}
 use Rattle.lugsheet.specs.Answers.{answered}
+use Rattle.lugsheet.specs.RowLaws.{check_refused, check_taken, measure_refused, measure_room as taken_room, measure_overlap as taken_overlap, measure_done as taken_done}
+use Rattle.lugsheet.specs.RowLaws.{slice_refused as row_refused, slice_room as not_long, slice_form as not_formed, slice_done as formed}
+use Rattle.lugsheet.specs.RowLaws.{placement_refused as row_unplaced, placement_bench_room as bench_off, placement_room as placement_off}
 
 -- answer and buffer by the whole outcome
 pub told_by : {answer : ℕ} {buffer : List ℕ} {o : Outcome} → o ≡ record { answer = answer; buffer = buffer } → (answer ≡ o.answer) × (buffer ≡ o.buffer)
@@ -38,24 +41,20 @@ held_row row h r = let t = reads_ok (read_row row) h r in (t.0, t.1.1)
 -- ---- check
 
 pub check_err : (row : List ℕ) (f : Refused) → Reads (read_row row) (Err f) → answered (Err f) ≡ (check_call row).answer
-unfolding check_call
-check_err row f h = rw (reads_err (read_row row) f h) refl
+check_err row f h = sym (check_refused row f.refusal f.place (reads_err (read_row row) f h))
 
 pub check_ok : (row : List ℕ) (h : Sheet) → Reads (read_row row) (Ok h) → length h.widths.now ≡ (check_call row).answer
-unfolding check_call
-check_ok row h r = let t = reads_ok (read_row row) h r in rw t.1.0 (ap length t.1.1.widths_are)
+check_ok row h r = let t = reads_ok (read_row row) h r in ap length t.1.1.widths_are ∙ sym (check_taken row t.0 t.1.0)
 
 -- ---- measure
 
 pub measure_err : (row placement : List ℕ) (f : Refused) → Reads (read_row row) (Err f) → answered (Err f) ≡ (measure_call row placement).answer
-unfolding measure_call
-measure_err row placement f h = rw (reads_err (read_row row) f h) refl
+measure_err row placement f h = sym (measure_refused row placement f.refusal f.place (reads_err (read_row row) f h))
 
 -- of a row R that is taken, by what is held of it in h; s is the placement
 module _ (row s : List ℕ) (h : Sheet) (R : Row) (e : read_row row ≡ taken R) (held : Holds h.width h.widths.now h.nets.now R) where
   far_off : (length s ≡ 4 * length h.widths.now → ⊥) → refusal Room 0 ≡ (measure_call row s).answer
-  unfolding measure_call
-  far_off far = rw (e, ne_eqb (length s) (4 * length R.widths) (λ q. far (rw held.widths_are q))) refl
+  far_off far = sym (taken_room row s R e (λ q. far (rw held.widths_are q)))
 
   module _ (long : length s ≡ 4 * length h.widths.now) where
     right_length : length s ≡ 4 * length R.widths
@@ -68,15 +67,10 @@ module _ (row s : List ℕ) (h : Sheet) (R : Row) (e : read_row row ≡ taken R)
 
     module _ (i : ℕ) (found : i ≡ overlap_from h.width 0 0 h.widths.now (sites_from s 0 (length h.widths.now))) where
       overlaps : i < length h.widths.now → refusal Overlap i ≡ (measure_call row s).answer
-      unfolding measure_call measured
       overlaps l =
           let is = found ∙ first_is in
-          rw (
-            e,
-            eq-eqb (length s) (4 * length R.widths) right_length,
-            ne_eqb (overlap R (sites_from s 0 (length R.widths))) (length R.widths) (λ q. omega (arith, is, l, ap length held.widths_are)),
-          )
-          (ap (λ (n : ℕ). refusal Overlap n) is)
+          ap (λ (n : ℕ). refusal Overlap n) is
+          ∙ sym (taken_overlap row s R e right_length (λ q. omega (arith, is, l, ap length held.widths_are)))
 
       module _ (past : i ≡ length h.widths.now) where
         none : overlap R (sites_from s 0 (length R.widths)) ≡ length R.widths
@@ -90,14 +84,10 @@ module _ (row s : List ℕ) (h : Sheet) (R : Row) (e : read_row row ≡ taken R)
 
         done : (n : ℕ) → ((ws : List ℕ) → Measurable h.nets.now ws s → n ≡ length_by (sites_from s 0 (length ws)) h.nets.now)
             → n ≡ (measure_call row s).answer
-        unfolding measure_call measured
         done n sums =
-            rw (
-              e,
-              eq-eqb (length s) (4 * length R.widths) right_length,
-              eq-eqb (overlap R (sites_from s 0 (length R.widths))) (length R.widths) none,
-            )
-            (sums R.widths ready ∙ measured_length h.width h.widths.now h.nets.now R held s right_length sites_legal)
+            sums R.widths ready
+            ∙ measured_length h.width h.widths.now h.nets.now R held s right_length sites_legal
+            ∙ sym (taken_done row s R e right_length none)
 
 -- the same by what reading the row answers
 module _ (row s : List ℕ) (h : Sheet) (r : Reads (read_row row) (Ok h)) where
@@ -131,30 +121,17 @@ fresh_done bench long = rw (eq-eqb (length bench) bench_size long) refl
 
 pub slice_err : (row bench : List ℕ) (budget : ℕ) (f : Refused) → Reads (read_row row) (Err f)
     → slice_call row bench budget ≡ refuse bench f.refusal f.place
-unfolding slice_call
-slice_err row bench budget f h = rw (reads_err (read_row row) f h) refl
+slice_err row bench budget f h = row_refused row bench budget f.refusal f.place (reads_err (read_row row) f h)
 
 -- of a row R that is taken; s are the bytes of the bench before, t afterwards
 module _ (row s : List ℕ) (budget : ℕ) (R : Row) (e : read_row row ≡ taken R) where
-  not_long : (length s ≡ bench_size → ⊥) → slice_call row s budget ≡ refuse s Room 0
-  unfolding slice_call
-  not_long far = rw (e, ne_eqb (length s) bench_size far) refl
-
   module _ (long : length s ≡ bench_size) where
-    not_formed : in_form R s ≡ false → slice_call row s budget ≡ refuse s WrongBench 0
-    unfolding slice_call
-    not_formed f = rw (e, eq-eqb (length s) bench_size long, f) refl
-
-    formed : in_form R s ≡ true → slice_call row s budget ≡ sliced R budget (bench_of R s)
-    unfolding slice_call
-    formed f = rw (e, eq-eqb (length s) bench_size long, f) refl
-
     module _ (t : List ℕ) (x : Result Sliced Refusal) (told : SlicedAs R budget s t x) where
       refused_as : (q : Refusal) → x ≡ Err q → slice_call row s budget ≡ refuse t q 0
       refused_as q is = go (in_form R s) refl
         where
           go : (b : Bool) → in_form R s ≡ b → slice_call row s budget ≡ refuse t q 0
-          go false f = let same : q ≡ WrongBench = cc (told.wrong f) in rw (same, told.kept f) (not_formed f)
+          go false f = let same : q ≡ WrongBench = cc (told.wrong f) in rw (same, told.kept f) (not_formed row s budget R e long f)
           go true f = let m = told.moves f in cc (m.1.0)
 
       done_as : (a : Sliced) → x ≡ Ok a → slice_call row s budget ≡ record { answer = 2 * a.steps.0 + bit a.finished; buffer = t }
@@ -165,7 +142,7 @@ module _ (row s : List ℕ) (budget : ℕ) (R : Row) (e : read_row row ≡ taken
           go true f =
               let m = told.moves f in
               let same : a ≡ m.0 = cc (m.1.0) in
-              rw same (formed f ∙ sym (advanced_outcome R budget s t m.0 m.1.1))
+              rw same (formed row s budget R e long f ∙ sym (advanced_outcome R budget s t m.0 m.1.1))
 
 -- the same by what reading the row answers
 module _ (row s : List ℕ) (budget : ℕ) (h : Sheet) (r : Reads (read_row row) (Ok h)) where
@@ -185,17 +162,7 @@ module _ (row s : List ℕ) (budget : ℕ) (h : Sheet) (r : Reads (read_row row)
 
 pub placement_err : (row bench placement : List ℕ) (f : Refused) → Reads (read_row row) (Err f)
     → placement_call row bench placement ≡ refuse placement f.refusal f.place
-unfolding placement_call
-placement_err row bench placement f h = rw (reads_err (read_row row) f h) refl
-
-module _ (row bench before : List ℕ) (R : Row) (e : read_row row ≡ taken R) where
-  bench_off : (length bench ≡ bench_size → ⊥) → placement_call row bench before ≡ refuse before Room 0
-  unfolding placement_call
-  bench_off far = rw (e, ne_eqb (length bench) bench_size far) refl
-
-  placement_off : length bench ≡ bench_size → (length before ≡ 4 * length R.widths → ⊥) → placement_call row bench before ≡ refuse before Room 0
-  unfolding placement_call
-  placement_off long far = rw (e, eq-eqb (length bench) bench_size long, ne_eqb (length before) (4 * length R.widths) far) refl
+placement_err row bench placement f h = row_unplaced row bench placement f.refusal f.place (reads_err (read_row row) f h)
 
 -- by what reading the row answers
 module _ (row bench before : List ℕ) (h : Sheet) (r : Reads (read_row row) (Ok h)) where

@@ -1,3 +1,4 @@
 pub mod Answers
+pub mod RowLaws
 pub mod CallLaws
 pub mod RoomLaws

@@ -19,11 +19,11 @@ use Rattle.placing.specs.PlacedAs.{PlacedAs}
 
 module _ (row bench before after : List ℕ) (R : Row) (r : Result ℕ Refusal) (read : read_row row ≡ taken R) (whole : length bench ≡ bench_size)
     (room : length before ≡ 4 * length R.widths) (p : PlacedAs R bench before after r) where
-  call_unformed : in_form R bench ≡ false → placement_call row bench before ≡ record { answer = refusal WrongBench 0; buffer = after }
+  pub call_unformed : in_form R bench ≡ false → placement_call row bench before ≡ record { answer = refusal WrongBench 0; buffer = after }
   unfolding placement_call
   call_unformed e = rw (read, eq-eqb (length bench) bench_size whole, eq-eqb (length before) (4 * length R.widths) room, e, p.kept (rw e refl)) refl
 
-  call_unfinished : in_form R bench ≡ true → finished R (bench_of R bench) ≡ false
+  pub call_unfinished : in_form R bench ≡ true → finished R (bench_of R bench) ≡ false
       → placement_call row bench before ≡ record { answer = refusal Unfinished 0; buffer = after }
   unfolding placement_call
   call_unfinished f e =

@@ -7,7 +7,8 @@ ghost use Rattle.rules.specs.Row.{Row};
 ghost use Rattle.rules.specs.Bench.{bench_of};
 ghost use Rattle.rules.specs.Calls.{packed, positions, site_bytes};
 ghost use Rattle.reading.specs.Reads.{Holds};
-ghost use Rattle.changes.specs.Columns.{cells_of, edges_of};
+ghost use Rattle.changes.specs.Columns.{cells_of, edges_of, sizes_of, sums_of};
+ghost use Rattle.layout.specs.Columns.{bounds_of, slots_of, needs_of};
 ghost use Rattle.placing.specs.Sites.{over};
 ghost use Rattle.placing.specs.Puts.{Fits, Ready};
 ghost use Rattle.placing.specs.PlacedAs.{PlacedAs};
@@ -59,7 +60,9 @@ pub fn place(
 ) -> Result<u64, Refusal>
     requires lent { (length sheet.widths.now + 1 ≤ length places.old) × (length sheet.widths.now ≤ length clumps.old) × (length placement.old ≡ 4 * length sheet.widths.now) }
     requires holds { (R : Row) × Holds sheet.width sheet.widths.now sheet.nets.now R }
-    ensures { (R : Row) → Holds sheet.entry.width sheet.entry.widths.now sheet.entry.nets.now R → PlacedAs R bench.now placement.old placement.new result }
+    ensures placed { (R : Row) → Holds sheet.entry.width sheet.entry.widths.now sheet.entry.nets.now R → PlacedAs R bench.now placement.old placement.new result }
+    ensures other_places { (bounds_of places.new ≡ bounds_of places.old) × (slots_of places.new ≡ slots_of places.old) × (needs_of places.new ≡ needs_of places.old) }
+    ensures other_clumps { (sizes_of clumps.new ≡ sizes_of clumps.old) × (sums_of clumps.new ≡ sums_of clumps.old) }
 {
     let cells = sheet.widths.len();
     let places = &mut places[..cells + 1];

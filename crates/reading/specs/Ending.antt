@@ -4,7 +4,7 @@ use Rattle.std.proofs.Common.{◌∙◌, arith, ne_eqb, eq-eqb, le-leb}
 use Rattle.std.proofs.lemmas.Bool.{lt-leb}
 use Rattle.rules.specs.Row.{Row}
 use Rattle.rules.specs.Records.{Reading, record_at}
-use Rattle.rules.specs.Reading.{taken, refused, total, ended, read_row}
+use Rattle.rules.specs.Reading.{Read, taken, refused, total, ended, read_row}
 use Rattle.rules.specs.declared.Refusal.TheVariants.{Tail, Full}
 use Rattle.rules.specs.declared.Refused.{Refused}
 use Rattle.rules.specs.declared.Record.TheVariants.{En}
@@ -14,10 +14,11 @@ use Rattle.nets.specs.declared.Net.{Net}
 use Rattle.nets.specs.declared.Draft.{Draft}
 use Rattle.reading.specs.ReadingLaws.{read_end}
 use Rattle.reading.specs.SoundLaws.{sound_read}
-use Rattle.reading.specs.Reads.{closed_by, Holds, Reads}
+use Rattle.reading.specs.Reads.{closed_by, Holds, Reads, Fills}
 use Rattle.reading.specs.Underway.{Underway}
 use Rattle.reading.specs.Nets.{InNets, all_stored}
 use Rattle.reading.specs.declared.Sheet.{Sheet}
+use Rattle.reading.specs.declared.Extent.{Extent}
 
 -- ---- the last two checks
 
@@ -85,11 +86,23 @@ holds_taken s ws sum p t d ns c i is e =
       sound = sound_read s (row_of c) e;
     }
 
-pub reads_taken : (s ws : List ℕ) (sum : ℕ) (p : Progress) (t : List ℕ) (d : Draft) (ns : List Net) (c : Reading)
-    → InNets s ws sum p t d ns c → record_at c t ≡ Ok En → read_row s ≡ taken (row_of c) → (h : Sheet) → h.width ≡ p.width → h.widths.now ≡ ws
-    → h.nets.now ≡ take p.nets (closed_by p d ns) → Reads (read_row s) (Ok h)
-reads_taken s ws sum p t d ns c i is e h width widths nets =
-    rw (e, width, widths, nets) (holds_taken s ws sum p t d ns c i is e)
+pub fills_taken : (s ws : List ℕ) (sum : ℕ) (p : Progress) (t : List ℕ) (d : Draft) (ns : List Net) (c : Reading)
+    → InNets s ws sum p t d ns c → record_at c t ≡ Ok En → read_row s ≡ taken (row_of c) → (widths : List ℕ) (nets : List Net) (h : Extent)
+    → h.width ≡ p.width → take h.cells widths ≡ ws → take h.nets nets ≡ take p.nets (closed_by p d ns) → Fills (read_row s) widths nets (Ok h)
+fills_taken s ws sum p t d ns c i is e widths nets h width cells kept =
+    rw (e, width, cells, kept) (holds_taken s ws sum p t d ns c i is e)
 
-pub reads_refused : (s : List ℕ) (f : Refused) → read_row s ≡ refused f.refusal f.place → Reads (read_row s) (Err f)
-reads_refused s f e = rw e refl
+pub fills_refused : (s widths : List ℕ) (nets : List Net) (f : Refused) → read_row s ≡ refused f.refusal f.place
+    → Fills (read_row s) widths nets (Err f)
+fills_refused s widths nets f e = rw e refl
+
+-- ---- what the lists hold is handed on
+
+pub reads_taken : (r : Read) (widths : List ℕ) (nets : List Net) (e : Extent) → Fills r widths nets (Ok e) → (h : Sheet) → h.width ≡ e.width
+    → h.widths.now ≡ take e.cells widths → h.nets.now ≡ take e.nets nets → Reads r (Ok h)
+reads_taken (taken R) widths nets e f h width cells kept = rw (width, cells, kept) f
+reads_taken (refused q place) widths nets e f h width cells kept = absurd f
+
+pub reads_refused : (r : Read) (widths : List ℕ) (nets : List Net) (f : Refused) → Fills r widths nets (Err f) → Reads r (Err f)
+reads_refused (taken R) widths nets f h = h
+reads_refused (refused q place) widths nets f h = h

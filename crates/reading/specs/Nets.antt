@@ -40,7 +40,7 @@ Drafting d [] = Unit {0}
 Drafting d (t ∷ ts) = d ≡ drafted t
 
 -- a pin that the draft takes goes to the open net
-pin_drafted : (d d' : Draft) (p : Pin) → ((t : Listed) → d ≡ drafted t → d' ≡ drafted (with_pin_of t p)) → (ts : List Listed) → Drafting d ts
+pub pin_drafted : (d d' : Draft) (p : Pin) → ((t : Listed) → d ≡ drafted t → d' ≡ drafted (with_pin_of t p)) → (ts : List Listed) → Drafting d ts
     → Drafting d' (with_pin p ts)
 unfolding with_pin with_pin_of
 pin_drafted d d' p h [] e = tt
@@ -116,7 +116,7 @@ pin_behind_stored W ns p [] h = h
 pin_behind_stored W ns p (t ∷ ts) h = h
 
 -- a record of a net changes only the nets: the open net is drafted, and those behind it are stored
-record Opens (c : Reading) (r : Record) (d : Draft) (ns : List Net) : Type 0 where
+pub record Opens (c : Reading) (r : Record) (d : Draft) (ns : List Net) : Type 0 where
   pub head : (after c r).head ≡ c.head
   pub widths : (after c r).widths ≡ c.widths
   pub drafting : Drafting d (after c r).nets

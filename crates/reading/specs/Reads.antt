@@ -1,6 +1,6 @@
 -- What reading a row answers, beside what its definition says: a row that is taken, with its widths and the summaries of its nets; or the
 -- refusal and its place, and nothing else.
-use Rattle.std.specs.Prelude.{ℕ, ◌-◌, ◌≤◌, min, ◌≡◌, List, map, set, cond, ltb, Result, Ok, Err}
+use Rattle.std.specs.Prelude.{ℕ, ◌-◌, ◌≤◌, min, ◌≡◌, List, map, set, take, cond, ltb, Result, Ok, Err}
 use Rattle.numbers.specs.Bytes.{u16_at}
 use Rattle.rules.specs.Sizes.{most_cells, most_nets}
 use Rattle.rules.specs.Row.{Row}
@@ -13,6 +13,7 @@ use Rattle.nets.specs.declared.Net.{Net}
 use Rattle.nets.specs.declared.Draft.{Draft}
 use Rattle.reading.specs.Sound.{Sound}
 use Rattle.reading.specs.declared.Sheet.{Sheet}
+use Rattle.reading.specs.declared.Extent.{Extent}
 
 -- room for as many cells and nets as the bytes say, where that is not too many for any row
 pub record Roomy (s : List ℕ) (cells nets : ℕ) : Type 0 where
@@ -31,6 +32,13 @@ Reads (taken R) (Ok h) = Holds h.width h.widths.now h.nets.now R
 Reads (taken R) (Err f) = ⊥
 Reads (refused q place) (Ok h) = ⊥
 Reads (refused q place) (Err f) = f ≡ record { refusal = q; place = place }
+
+-- the same of the lists that were lent: the row is held by what stands first in them
+abbrev pub Fills : Read → List ℕ → List Net → Result Extent Refused → Type 0
+Fills (taken R) widths nets (Ok e) = Holds e.width (take e.cells widths) (take e.nets nets) R
+Fills (taken R) widths nets (Err f) = ⊥
+Fills (refused q place) widths nets (Ok e) = ⊥
+Fills (refused q place) widths nets (Err f) = f ≡ record { refusal = q; place = place }
 
 -- what a reader of one record answered, a refusal with its place
 abbrev pub placed : {A : Type 0} → ℕ → Result A Refusal → Result A Refused

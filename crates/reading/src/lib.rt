@@ -6,7 +6,7 @@ ghost use Rattle.std.specs.Prelude.{IfOk, ◌≡◌, List, ℕ, ◌≤◌, min, 
 ghost use Rattle.rules.specs.Sizes.{widest, most_cells, most_nets};
 ghost use Rattle.rules.specs.Records.{Reading};
 ghost use Rattle.rules.specs.Reading.{read_row};
-ghost use Rattle.reading.specs.Reads.{closed_by, placed, Roomy, Reads};
+ghost use Rattle.reading.specs.Reads.{closed_by, placed, Roomy, Reads, Fills};
 ghost use Rattle.numbers.specs.Bytes.{u16_at};
 ghost use Rattle.reading.specs.Cells.{FillsBy};
 ghost use Rattle.nets.specs.Summary.{drafted};
@@ -22,6 +22,14 @@ pub struct Sheet<'a> {
     pub width: u32,
     pub widths: &'a [u32],
     pub nets: &'a [Net],
+}
+
+// The width of a row that was read, and how much of the lent lists its cells and its nets take.
+#[derive(Clone, Copy)]
+struct Extent {
+    pub width: u32,
+    pub cells: usize,
+    pub nets: usize,
 }
 
 // What RW and the CE leave: how far the reading has come, the bytes that follow, and the sum of the widths.
@@ -109,15 +117,13 @@ fn reopen(weight: u32, p: Progress, draft: Draft, nets: &mut [Net]) -> Draft
     Draft::new(weight)
 }
 
-// The row that some bytes are, or why they are none: RW and the cells, then the records of the nets up to the one that none follows.
-pub fn read_row<'a>(
-    s: &[u8],
-    widths: &'a mut [u32],
-    nets: &'a mut [Net],
-) -> Result<Sheet<'a>, Refused>
+// RW and the cells, then the records of the nets up to the one that none follows. It hands no list on, and is called and not put in place: so
+// `check`, which asks for the numbers alone, need not clear the list of the nets first.
+#[inline(never)]
+fn fill(s: &[u8], widths: &mut [u32], nets: &mut [Net]) -> Result<Extent, Refused>
     requires { Roomy s.now (length widths.old) (length nets.old) }
-    ensures reads { Reads (read_row s.now) result }
-    ensures within { IfOk result (λ h. (length h.widths.now ≤ length widths.old) × (length h.nets.now ≤ length nets.old)) }
+    ensures fills { Fills (read_row s.now) widths.new nets.new result }
+    ensures within { IfOk result (λ e. (e.cells ≤ length widths.new) × (e.nets ≤ length nets.new)) }
 {
     let cells = read_cells(s, widths)?;
     let mut p = cells.progress;
@@ -134,14 +140,33 @@ pub fn read_row<'a>(
             _ => {
                 close(p, draft, nets);
                 ended(cells.sum, p, t)?;
-                return Ok(Sheet {
+                return Ok(Extent {
                     width: p.width,
-                    widths,
-                    nets: &nets[..p.nets],
+                    cells: cells.progress.cells,
+                    nets: p.nets,
                 });
             }
         }
         p = p.after(r);
         t = records::rest(t, r);
     }
+}
+
+// The row that some bytes are, or why they are none.
+#[inline(always)]
+pub fn read_row<'a>(
+    s: &[u8],
+    widths: &'a mut [u32],
+    nets: &'a mut [Net],
+) -> Result<Sheet<'a>, Refused>
+    requires { Roomy s.now (length widths.old) (length nets.old) }
+    ensures reads { Reads (read_row s.now) result }
+    ensures within { IfOk result (λ h. (length h.widths.now ≤ length widths.old) × (length h.nets.now ≤ length nets.old)) }
+{
+    let extent = fill(s, widths, nets)?;
+    Ok(Sheet {
+        width: extent.width,
+        widths: &widths[..extent.cells],
+        nets: &nets[..extent.nets],
+    })
 }

@@ -2,15 +2,15 @@
 // A thin program over the library: all that it prints comes from the proved calls. What is read and written is tested, not proved.
 #![tactic(auto)]
 
-ghost use Rattle.std.specs.Prelude.{◌*◌, ◌≤◌, length};
+ghost use Rattle.std.specs.Prelude.{◌*◌, ◌≤◌, length, IfOk};
 ghost use Rattle.rules.specs.Sizes.{most_cells};
 
 use rules::{BENCH_SIZE, MOST_CELLS};
-use std::io::Read;
+use std::io::{Cursor, Read};
 use std::{fmt, io};
 
 // No row is longer than this: what comes after is not read.
-const MOST_BYTES: u64 = 65536;
+const MOST_BYTES: usize = 65536;
 
 // From here on a call's answer is a refusal: this, and so many times the second number, and its place.
 const REFUSALS: u64 = 1 << 63;
@@ -102,8 +102,18 @@ fn place(rt: &impl Print, row: &[u8]) -> io::Result<()> {
     print_cells(rt, sites)
 }
 
+// Reads until the input ends or the room is full. No memory is asked for: there is none that could run out.
+fn read_row(rt: &impl Input, room: &mut [u8]) -> io::Result<usize>
+    ensures { IfOk result (λ n. n ≤ length room.new) }
+{
+    let most = room.len();
+    let mut reader = rt.reader().take(most as u64);
+    let read = io::copy(&mut reader, &mut Cursor::new(room))?;
+    Ok((read as usize).min(most))
+}
+
 fn main(rt: HostRuntime) -> io::Result<()> {
-    let mut row = Vec::new(rt.alloc());
-    rt.reader().take(MOST_BYTES).read_to_end(&mut row)?;
-    place(&rt, &row)
+    let mut room = [0; MOST_BYTES];
+    let length = read_row(&rt, &mut room)?;
+    place(&rt, &room[..length])
 }

@@ -1,7 +1,7 @@
 -- A row that was read is laid out: what is held of it, the places, the sums and the spread changes are what the engine asks of its lists
 -- (document 01, "Slope changes").
 use Rattle.std.specs.Prelude.{ℕ, zero, suc, ◌+◌, ◌-◌, ◌*◌, ◌≤◌, ◌<◌, ◌≡◌, refl, length}
-use Rattle.std.proofs.Common.{ap, sym, subst, ◌∙◌, ⊎_elim, arith}
+use Rattle.std.proofs.Common.{ap, sym, subst, ⊎_elim, arith}
 use mathlib.Core.List.Memᴰ.{cases_cons}
 use mathlib.Core.List.Memᴰ.{not-nil}
 use mathlib.Core.List.{List, [], ◌∷◌, Memᴰ as In}

@@ -101,7 +101,9 @@ first_written b opened held n carried cs l w =
       edges_are = λ k h. let h' : k < n = omega arith in rw (← take-map (λ (c : Held). c.edge) n cs, get_or-take n (edges_of cs) k 0 h') (w.edges_are k h');
     }
 
-module _ {R : Row} {e : Bench} {clumps : List Held} {b : Meant} (n : Numbers R e (cells_of clumps) (edges_of clumps) b) (v : Saves R clumps) where
+-- ---- of any two lists that list the clumps
+
+module _ {R : Row} {e : Bench} {cells edges : List ℕ} {b : Meant} (n : Numbers R e cells edges b) where
   -- with a clump in hand its cells are the last that were opened
   some_held : (c : Clump) → b.hand ≡ holding c → (e.first < e.opened) × (e.opened - e.first ≡ c.cells) × (c.edge ≡ 0)
   unfolding cells_in
@@ -122,38 +124,48 @@ module _ {R : Row} {e : Bench} {clumps : List Held} {b : Meant} (n : Numbers R e
   -- nothing in hand
   without_hand : e.first ≡ e.opened → (hand : Hand) → b.hand ≡ hand
       → (in_hand b.hand ≡ false) × (length (all_clumps b.hand b.settled) ≡ length b.settled)
-      × Listed (cells_of clumps) (edges_of clumps) (all_clumps b.hand b.settled)
+      × Listed cells edges (all_clumps b.hand b.settled)
   unfolding in_hand
   without_hand t empty q = rw q (refl, refl, n.listed)
   without_hand t (holding c) q = absurd (omega (arith, (some_held c q).0))
 
   -- a clump in hand, put after the settled ones at edge 0
-  with_hand_lem : (e.first ≡ e.opened → ⊥) → (hand : Hand) → b.hand ≡ hand
+  with_hand_lem : (length R.widths ≤ length cells) × (length R.widths ≤ length edges) → (e.first ≡ e.opened → ⊥)
+      → (hand : Hand) → b.hand ≡ hand
       → (in_hand b.hand ≡ true) × (length (all_clumps b.hand b.settled) ≡ length b.settled + 1)
-      × Listed (set (cells_of clumps) e.settled (e.opened - e.first)) (set (edges_of clumps) e.settled 0) (all_clumps b.hand b.settled)
+      × Listed (set cells e.settled (e.opened - e.first)) (set edges e.settled 0) (all_clumps b.hand b.settled)
   unfolding in_hand
-  with_hand_lem t empty q = absurd (t (none_held q))
-  with_hand_lem t (holding c) q =
-      let cells = cells_of clumps in
-      let edges = edges_of clumps in
+  with_hand_lem long t empty q = absurd (t (none_held q))
+  with_hand_lem long t (holding c) q =
       let held = some_held c q in
       let place = n.settled_is in
       let count : length (all_clumps (holding c) b.settled) ≤ b.opened = rw q at (proper_clumps R b n.proper) in
-      let room : e.settled < length clumps = omega (arith, v.clumps_long, n.within) in
       rw q (
         refl,
         omega arith,
         (
-          rw (sym place) (get_or-set_same cells e.settled (e.opened - e.first) 0 (omega (arith, cells_length clumps)) ∙ held.1),
-          rw (sym place) (get_or-set_same edges e.settled 0 0 (omega (arith, edges_length clumps)) ∙ sym held.2),
+          rw (sym place) (get_or-set_same cells e.settled (e.opened - e.first) 0 (omega (arith, long.0, n.within)) ∙ held.1),
+          rw (sym place) (get_or-set_same edges e.settled 0 0 (omega (arith, long.1, n.within)) ∙ sym held.2),
           listed_past cells edges b.settled e.settled (e.opened - e.first) 0 (omega arith) n.listed,
         ),
       )
 
+  -- what the lists say
+  pub listed_without : e.first ≡ e.opened → Written e.opened false e.settled e.carried.0 cells edges b
+  listed_without t =
+      let w = without_hand t b.hand refl in
+      all_written b e.opened false e.settled e.carried.0 cells edges n.opened_is w.0 (n.settled_is ∙ sym w.1) n.carried_is w.2
+
+  pub listed_with : (length R.widths ≤ length cells) × (length R.widths ≤ length edges) → (e.first ≡ e.opened → ⊥)
+      → Written e.opened true (e.settled + 1) e.carried.0 (set cells e.settled (e.opened - e.first)) (set edges e.settled 0) b
+  listed_with long t =
+      let w = with_hand_lem long t b.hand refl in
+      all_written b e.opened true (e.settled + 1) e.carried.0 _ _ n.opened_is w.0 (omega (arith, n.settled_is, w.1)) n.carried_is w.2
+
   -- what writing asks of the numbers
-  pub left_within : (e.opened ≤ most_cells) × (e.settled ≤ length R.widths)
-  left_within = (
-    omega (arith, n.opened_is, n.within, v.few),
+  pub left_within : length R.widths ≤ most_cells → (e.opened ≤ most_cells) × (e.settled ≤ length R.widths)
+  left_within few = (
+    omega (arith, n.opened_is, n.within, few),
     omega (arith, n.settled_is, n.within, proper_clumps R b n.proper, length-append (hand_clump b.hand) b.settled),
   )
 
@@ -166,30 +178,7 @@ module _ {R : Row} {e : Bench} {clumps : List Held} {b : Meant} (n : Numbers R e
   pub hand_within : (e.first ≡ e.opened → ⊥) → (e.settled < length R.widths) × (e.first ≤ e.opened)
   hand_within t = hand_by t b.hand refl
 
-  -- ---- the bench that is written
-
-  pub written_without : e.first ≡ e.opened
-      → Written e.opened false (length (take e.settled clumps)) e.carried.0 (cells_of (take e.settled clumps)) (edges_of (take e.settled clumps)) b
-  written_without t =
-      let w = without_hand t b.hand refl in
-      first_written b e.opened false e.settled e.carried.0 clumps (omega (arith, left_within.1, v.clumps_long))
-      (all_written b e.opened false e.settled e.carried.0 _ _ n.opened_is w.0 (n.settled_is ∙ sym w.1) n.carried_is w.2)
-
-  -- with the clump in hand put there
-  pub written_with : (e.first ≡ e.opened → ⊥) → (c : Held) → c.cells ≡ e.opened - e.first → c.edge ≡ 0
-      → (cs : List Held) → cs ≡ set clumps e.settled c → let first = take (e.settled + 1) cs in
-      Written e.opened true (length first) e.carried.0 (cells_of first) (edges_of first) b
-  written_with t c cells edge cs put =
-      let w = with_hand_lem t b.hand refl in
-      let listed : Listed (cells_of (set clumps e.settled c)) (edges_of (set clumps e.settled c)) (all_clumps b.hand b.settled) =
-      rw (cells_set clumps e.settled c, edges_set clumps e.settled c, cells, edge) w.2 in
-      rw put
-      (first_written b e.opened true (e.settled + 1) e.carried.0 (set clumps e.settled c)
-      (omega (arith, length-set clumps e.settled c, (hand_within t).0, v.clumps_long))
-      (all_written b e.opened true (e.settled + 1) e.carried.0 _ _ n.opened_is w.0 (omega (arith, n.settled_is, w.1)) n.carried_is listed))
-
-  -- ---- whether all is done
-
+  -- whether all is done
   finished_by_lem : (hand : Hand) → b.hand ≡ hand → eqb e.first e.opened && leb (length R.widths) e.opened ≡ finished_by R b.opened hand
   unfolding finished_by
   finished_by_lem empty q = rw (eq-eqb e.first e.opened (none_held q), n.opened_is) refl
@@ -198,3 +187,23 @@ module _ {R : Row} {e : Bench} {clumps : List Held} {b : Meant} (n : Numbers R e
   pub finished_is : (count : ℕ) → count ≡ length R.widths → eqb e.first e.opened && leb count e.opened ≡ finished R b
   unfolding finished
   finished_is count m = rw m (finished_by_lem b.hand refl)
+
+-- ---- the bench that is written, where the two are the columns of one list of clumps
+
+module _ {R : Row} {e : Bench} {clumps : List Held} {b : Meant} (n : Numbers R e (cells_of clumps) (edges_of clumps) b) (v : Saves R clumps) where
+  pub written_without : e.first ≡ e.opened
+      → Written e.opened false (length (take e.settled clumps)) e.carried.0 (cells_of (take e.settled clumps)) (edges_of (take e.settled clumps)) b
+  written_without t =
+      first_written b e.opened false e.settled e.carried.0 clumps (omega (arith, (left_within n v.few).1, v.clumps_long)) (listed_without n t)
+
+  -- with the clump in hand put there
+  pub written_with : (e.first ≡ e.opened → ⊥) → (c : Held) → c.cells ≡ e.opened - e.first → c.edge ≡ 0
+      → (cs : List Held) → cs ≡ set clumps e.settled c → let first = take (e.settled + 1) cs in
+      Written e.opened true (length first) e.carried.0 (cells_of first) (edges_of first) b
+  written_with t c cells edge cs put =
+      let long : (length R.widths ≤ length (cells_of clumps)) × (length R.widths ≤ length (edges_of clumps)) =
+      (omega (arith, v.clumps_long, cells_length clumps), omega (arith, v.clumps_long, edges_length clumps)) in
+      rw put
+      (first_written b e.opened true (e.settled + 1) e.carried.0 (set clumps e.settled c)
+      (omega (arith, length-set clumps e.settled c, (hand_within n t).0, v.clumps_long))
+      (rw (cells_set clumps e.settled c, edges_set clumps e.settled c, cells, edge) (listed_with n long t)))

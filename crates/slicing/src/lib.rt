@@ -95,7 +95,7 @@ fn advance(
     }
 }
 
-// Of a row that was read. The other lists are lent to work in: of `places` every number is 0.
+// Of a row that was read. The other lists are lent to work in: of `places` each bound and each need is 0.
 pub fn slice(
     sheet: Sheet<'_>,
     bench: &mut [u8; BENCH_SIZE],

@@ -4,7 +4,7 @@ use Rattle.layout.specs.Columns.{starts_of}
 use Rattle.benches.specs.Fits.{ends_by, edge_fits}
 use Rattle.benches.specs.BothLaws.{both, first_fails, second_fails}
 use Rattle.layout.specs.ColumnLaws.{start_read}
-use Rattle.changes.specs.ColumnLaws.{cells_length, edges_length, cells_set, edges_set}
+use Rattle.changes.specs.ColumnLaws.{cells_length, edges_length, cells_set, edges_set, sizes_kept, sums_kept}
 use Rattle.benches.specs.PassedLaws.{passed_none, passed_more, passed_stop}
 use Rattle.benches.proofs.parts_fit.Goals.{After-edge_fits}
 use Rattle.benches.proofs.parts_fit.Goals as goal
@@ -12,7 +12,7 @@ use Rattle.benches.proofs.parts_fit.Goals as goal
 pub loop-k-init : goal.loop-k-init
 loop-k-init c =
     let a = c.args in
-    (passed_none a.bench.now a.width (starts_of a.places.now) a.head c.settled-settled.result _ _, refl)
+    (passed_none a.bench.now a.width (starts_of a.places.now) a.head c.settled-settled.result _ _, refl, refl, refl)
 
 pub returns-then-not-cells_fit-clause-parted : goal.returns-then-not-cells_fit-clause-parted
 returns-then-not-cells_fit-clause-parted c =
@@ -54,4 +54,6 @@ loop-k-preserved c =
           (omega (arith, l.invariant.1, cells_length l.clumps)) (omega (arith, l.invariant.1, edges_length l.clumps))
           (both _ _ first_holds (sym told ∙ c.if-not-edge_fits.false))),
       length-set l.clumps l.k _ ∙ l.invariant.1,
+      sizes_kept l.clumps l.k _ refl ∙ l.invariant.2,
+      sums_kept l.clumps l.k _ refl ∙ l.invariant.3,
     )

@@ -31,7 +31,7 @@ returns-in-Ok g c =
     let a = c.args in
     let b = c.in-Some.ensures.cases in
     let h = c.in_ok-sheet in
-    let o = told_by (placement_done a.row.now a.bench.now a.placement.now h.sheet h.ensures.reads b.long c.if-placement-sheet.false c.place.new.placement c.in-Ok.length (rw b.same at c.in-Ok.ensures)) in
+    let o = told_by (placement_done a.row.now a.bench.now a.placement.now h.sheet h.ensures.reads b.long c.if-placement-sheet.false c.place.new.placement c.in-Ok.length (rw b.same at c.in-Ok.ensures.placed)) in
     record { value = o.0; placement_after = o.1 }
 
 pub returns-in-Err : goal.returns-in-Err
@@ -39,5 +39,5 @@ returns-in-Err g c =
     let a = c.args in
     let b = c.in-Some.ensures.cases in
     let h = c.in_ok-sheet in
-    let o = told_by (placement_refused a.row.now a.bench.now a.placement.now h.sheet h.ensures.reads b.long c.if-placement-sheet.false c.place.new.placement c.in-Err.refusal (rw b.same at c.in-Err.ensures)) in
+    let o = told_by (placement_refused a.row.now a.bench.now a.placement.now h.sheet h.ensures.reads b.long c.if-placement-sheet.false c.place.new.placement c.in-Err.refusal (rw b.same at c.in-Err.ensures.placed)) in
     record { value = (let e = o.0 in search rules); placement_after = o.1 }

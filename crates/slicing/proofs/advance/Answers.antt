@@ -73,6 +73,6 @@ returns c R t =
     let count : c.cells.result ≡ length R.widths = omega (arith, t.cut, starts_length c.args.row.places.now, c.cells.ensures) in
     record {
       steps = l.1;
-      ends = c.finished.ensures ∙ finished_is l.0 (saves d R t) c.cells.result count;
+      ends = c.finished.ensures ∙ finished_is l.0 c.cells.result count;
       bytes = c.save.ensures R (left d R) l.0 (saves d R t);
     }

@@ -6,10 +6,10 @@ use Rattle.slicing.proofs.save.Goals.{After-from, then-held, else-held}
 use Rattle.slicing.proofs.save.Goals as goal
 
 pub bounds-clumps-settled : goal.bounds-clumps-settled
-bounds-clumps-settled c = let r = c.requires.1.1 in omega (arith, (hand_within r.0 r.1 c.if-held.true).0, r.1.clumps_long)
+bounds-clumps-settled c = let r = c.requires.1.1 in omega (arith, (hand_within r.0 c.if-held.true).0, r.1.clumps_long)
 
 pub overflow_sub-clump : goal.overflow_sub-clump
-overflow_sub-clump c = let r = c.requires.1.1 in (hand_within r.0 r.1 c.if-held.true).1
+overflow_sub-clump c = let r = c.requires.1.1 in (hand_within r.0 c.if-held.true).1
 
 module _ (c : After-from) where
   one_more : (c.args.left.first ≡ c.args.left.opened → ⊥) → c.from.result ≡ 1
@@ -23,8 +23,8 @@ module _ (c : After-from) where
   within =
       let r = c.requires.1.1 in
       elim c.if-held.branch [
-        | then-held w ↦ omega (arith, one_more w.if-held.true, (hand_within r.0 r.1 w.if-held.true).0)
-        | else-held w ↦ omega (arith, none_more w.if-held.false, (left_within r.0 r.1).1)
+        | then-held w ↦ omega (arith, one_more w.if-held.true, (hand_within r.0 w.if-held.true).0)
+        | else-held w ↦ omega (arith, none_more w.if-held.false, (left_within r.0 r.1.few).1)
       ]
 
   count : length (take (c.args.left.settled + c.from.result) c.if-held.clumps) ≡ c.args.left.settled + c.from.result
@@ -40,7 +40,7 @@ pub store-requires : goal.store-requires
 store-requires c =
     let d = (goal.at.store-requires c).After-from in
     let r = c.requires.1.1 in
-    ((left_within r.0 r.1).0, omega (arith, within d, count d, r.1.few))
+    ((left_within r.0 r.1.few).0, omega (arith, within d, count d, r.1.few))
 
 pub returns : goal.returns
 returns c R m n v =

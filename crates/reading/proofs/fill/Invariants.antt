@@ -3,7 +3,7 @@
 use Rattle.std.proofs.Common.{length}
 use Rattle.rules.specs.Records.{Reading}
 use Rattle.reading.specs.Nets.{InNets}
-use Rattle.reading.proofs.read_row.Given as goal
+use Rattle.reading.proofs.fill.Given as goal
 
 abbrev pub invariant-loop-r : goal.invariant-loop-r
 invariant-loop-r l = record {

@@ -7,10 +7,10 @@ use Rattle.rules.specs.Reading.{after}
 use Rattle.rules.specs.declared.Record.TheVariants.{Nt, Fp, Mp}
 use Rattle.reading.specs.ReadingLaws.{record_fits, shorter}
 use Rattle.reading.specs.Nets.{net_read, net_refused, more_nets, more_fixed, more_on, last_is_end}
-use Rattle.reading.specs.Ending.{Closing, reads_taken, reads_refused}
+use Rattle.reading.specs.Ending.{Closing, fills_taken, fills_refused}
 use Rattle.reading.proofs.Exits.{same_refused}
-use Rattle.reading.proofs.read_row.Goals.{In_ok-r, In_default, After-after-p, in-Nt, in-Fp, in-Mp}
-use Rattle.reading.proofs.read_row.Goals as goal
+use Rattle.reading.proofs.fill.Goals.{In_ok-r, In_default, After-after-p, in-Nt, in-Fp, in-Mp}
+use Rattle.reading.proofs.fill.Goals as goal
 
 -- the record of this turn
 turn : (c : In_ok-r) → record_at c.loop-r.invariant.reading c.loop-r.t.now ≡ Ok c.in_ok-r.r
@@ -58,26 +58,26 @@ loop-r-preserved c =
       }
     ]
 
-pub returns-in_err-r-clause-reads : goal.returns-in_err-r-clause-reads
-returns-in_err-r-clause-reads c =
+pub returns-in_err-r-clause-fills : goal.returns-in_err-r-clause-fills
+returns-in_err-r-clause-fills c =
     rw (same_refused c.from_residual-in_err-r.result _ c.from_residual-in_err-r.ensures.1)
-    (reads_refused _ _ (net_refused _ _ _ _ _ _ _ _ c.loop-r.invariant.stands _ c.read_in_nets.ensures _ c.in_err-r.ensures))
+    (fills_refused _ _ _ _ (net_refused _ _ _ _ _ _ _ _ c.loop-r.invariant.stands _ c.read_in_nets.ensures _ c.in_err-r.ensures))
 
 pub ended-requires : goal.ended-requires
 ended-requires c = let k = goal.at.ended-requires c in (_, (_, closing k.In_default (turn k.In_ok-r)))
 
-pub returns-in_err-ended-in_default-clause-reads : goal.returns-in_err-ended-in_default-clause-reads
-returns-in_err-ended-in_default-clause-reads c =
-    let k = goal.at.returns-in_err-ended-in_default-clause-reads c in
+pub returns-in_err-ended-in_default-clause-fills : goal.returns-in_err-ended-in_default-clause-fills
+returns-in_err-ended-in_default-clause-fills c =
+    let k = goal.at.returns-in_err-ended-in_default-clause-fills c in
     rw (same_refused c.from_residual-in_err-ended-in_default.result _ c.from_residual-in_err-ended-in_default.ensures.1)
-    (reads_refused _ _ (c.in_err-ended-in_default.ensures _ _ (closing k.In_default (turn k.In_ok-r))))
+    (fills_refused _ _ _ _ (c.in_err-ended-in_default.ensures _ _ (closing k.In_default (turn k.In_ok-r))))
 
-pub returns-in_default-clause-reads : goal.returns-in_default-clause-reads
-returns-in_default-clause-reads c =
-    let k = goal.at.returns-in_default-clause-reads c in
+pub returns-in_default-clause-fills : goal.returns-in_default-clause-fills
+returns-in_default-clause-fills c =
+    let k = goal.at.returns-in_default-clause-fills c in
     let end = closing k.In_default (turn k.In_ok-r) in
-    reads_taken _ _ _ _ _ _ _ _ c.loop-r.invariant.stands end.is (c.in_ok-ended-in_default.ensures _ _ end)
-    _ refl refl (rw c.close.ensures refl)
+    fills_taken _ _ _ _ _ _ _ _ c.loop-r.invariant.stands end.is (c.in_ok-ended-in_default.ensures _ _ end)
+    _ _ _ refl refl (rw c.close.ensures refl)
 
 pub rest-t-requires : goal.rest-t-requires
 rest-t-requires c =
