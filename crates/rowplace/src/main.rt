@@ -6,7 +6,7 @@ ghost use Rattle.std.specs.Prelude.{◌*◌, ◌≤◌, length, IfOk};
 ghost use Rattle.rules.specs.Sizes.{most_cells};
 
 use rules::{BENCH_SIZE, MOST_CELLS};
-use std::io::{Cursor, Read};
+use std::io::Read;
 use std::{fmt, io};
 
 // No row is longer than this: what comes after is not read.
@@ -102,14 +102,20 @@ fn place(rt: &impl Print, row: &[u8]) -> io::Result<()> {
     print_cells(rt, sites)
 }
 
-// Reads until the input ends or the room is full. No memory is asked for: there is none that could run out.
+// Reads until the input ends or the room is full. A `Vec` that grows could run out of memory, and `io::copy` would read into a buffer of its own first.
 fn read_row(rt: &impl Input, room: &mut [u8]) -> io::Result<usize>
     ensures { IfOk result (λ n. n ≤ length room.new) }
 {
-    let most = room.len();
-    let mut reader = rt.reader().take(most as u64);
-    let read = io::copy(&mut reader, &mut Cursor::new(room))?;
-    Ok((read as usize).min(most))
+    let mut reader = rt.reader();
+    let mut done = 0;
+    while done < room.len() {
+        let n = reader.read(&mut room[done..])?;
+        if n == 0 {
+            break;
+        }
+        done += n;
+    }
+    Ok(done)
 }
 
 fn main(rt: HostRuntime) -> io::Result<()> {
